@@ -1,0 +1,9 @@
+use Rattle.std.proofs.Common.{◌<◌, ◌≤◌}
+use Rattle.cv_io.specs.Causes.{Rose}
+use Rattle.cv_io.proofs.standard.StdSink.give.Given as goal
+
+abbrev pub invariant-loop-turn : goal.invariant-loop-turn
+invariant-loop-turn g l = record {
+  later : l.initial.self.faults ≤ l.self.faults;
+  rose : 0 < l.turn → Rose l.initial.self.faults l.self.faults;
+}
