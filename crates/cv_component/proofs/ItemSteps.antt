@@ -50,7 +50,7 @@ items_read whole read rest token n piece was is begins size fits value =
     let size_is : item_size (token ∷ drop 1 rest) ≡ n = rw (sym begins) length_is in
     let some : 0 < n = rw (sym length_is) (item_length-positive token (drop 1 rest) (sym begins)) in
     let value_is : item_at (token ∷ drop 1 rest) ≡ piece ∷ [] =
-        rw (sym begins) (ap (λ p. p ∷ []) (ap (λ k. item (take k (token ∷ drop 1 rest))) length_is ∙ ap (λ ts. item (take n ts)) (sym is) ∙ sym value)) in
+    rw (sym begins) (ap (λ p. p ∷ []) (ap (λ k. item (take k (token ∷ drop 1 rest))) length_is ∙ ap (λ ts. item (take n ts)) (sym is) ∙ sym value)) in
     run_read item_size item_at whole read (piece ∷ []) rest n was (ap item_size is ∙ size_is) some fits (ap item_at is ∙ value_is)
 
 pub items_end : (whole read : List Piece) (rest : List Token) → read ++ items rest ≡ whole → length rest < 1 → read ≡ whole

@@ -53,7 +53,7 @@ rules_read whole read rest token n found was is begins size fits value =
     let size_is : rule_size (token ∷ drop 1 rest) ≡ n = rw (sym begins) length_is in
     let some : 0 < n = rw (sym length_is) (rule_length-positive token (drop 1 rest) (sym begins)) in
     let value_is : rule_at (token ∷ drop 1 rest) ≡ found ∷ [] =
-        rw (sym begins) (ap (λ p. p ∷ []) (ap (λ k. rule (take k (token ∷ drop 1 rest))) length_is ∙ ap (λ ts. rule (take n ts)) (sym is) ∙ sym value)) in
+    rw (sym begins) (ap (λ p. p ∷ []) (ap (λ k. rule (take k (token ∷ drop 1 rest))) length_is ∙ ap (λ ts. rule (take n ts)) (sym is) ∙ sym value)) in
     run_read rule_size rule_at whole read (found ∷ []) rest n was (ap rule_size is ∙ size_is) some fits (ap rule_at is ∙ value_is)
 
 pub rules_end : (whole read : List Rule) (rest : List Token) → read ++ rules rest ≡ whole → length rest < 1 → read ≡ whole

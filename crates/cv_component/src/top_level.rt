@@ -1,5 +1,5 @@
 // The top level of a list of tokens.
-ghost use Rattle.std.specs.Prelude.{◌≡◌, ◌++◌, [], ◌≤◌, length, IfOk, IsTrue};
+ghost use Rattle.std.specs.Prelude.{◌≡◌, ◌++◌, [], ◌≤◌, ◌-◌, length, take, drop, IfOk, IsTrue};
 ghost use Rattle.cv_component.specs.Nesting.{completed};
 ghost use Rattle.cv_component.specs.Stops.{stops};
 ghost use Rattle.cv_component.specs.TopLevel.{is_semicolon, opens_curly, closes_curly, top_length, curly_length, trim_front, trim_end};
@@ -97,6 +97,7 @@ pub fn curly_length(alloc: Global, tokens: &[Token]) -> Result<usize, OutOfMemor
 /// The list without whitespace at its front.
 pub fn trim_front(tokens: &[Token]) -> &[Token]
     ensures trimmed { result.now ≡ trim_front tokens.now }
+    ensures end { result.now ≡ drop (length tokens.now - length result.now) tokens.now }
     ensures within { length result.now ≤ length tokens.now }
 {
     let mut rest = tokens;
@@ -109,6 +110,7 @@ pub fn trim_front(tokens: &[Token]) -> &[Token]
 /// The list without whitespace at its end.
 pub fn trim_end(tokens: &[Token]) -> &[Token]
     ensures trimmed { result.now ≡ trim_end tokens.now }
+    ensures front { result.now ≡ take (length result.now) tokens.now }
     ensures within { length result.now ≤ length tokens.now }
 {
     let mut rest = tokens;
