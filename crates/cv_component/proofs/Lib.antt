@@ -1,0 +1,6 @@
+pub mod Balanced
+pub mod Inside
+pub mod Reading
+pub mod Pieces
+pub mod ItemSteps
+pub mod RuleSteps
