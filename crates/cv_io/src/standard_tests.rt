@@ -1,5 +1,6 @@
 // Standard readers and writers that are interrupted, fail in mid-stream, take nothing, or end.
 use crate::{ReadErr, SinkErr, StdSink, StdSource, put, read_all};
+use std::alloc::Global;
 use std::io;
 use std::test::Fail;
 
@@ -41,6 +42,20 @@ impl io::Read for Script {
     }
 }
 
+// Whether reading to the end gives these bytes, or this error.
+fn gives(
+    alloc: Global,
+    answers: &'static str,
+    most: usize,
+    bytes: &str,
+    error: Option<ReadErr>,
+) -> bool {
+    match read_all(alloc, &mut StdSource::new(answering(answers)), most) {
+        Ok(read) => error.is_none() && read.as_slice() == bytes.as_bytes(),
+        Err(failed) => error == Some(failed),
+    }
+}
+
 // Takes at a call what its script says: `0` nothing, any other byte one byte, and at its end the whole piece.
 #[derive(Drop)]
 struct Device {
@@ -77,11 +92,8 @@ fn a_reader_is_read_to_its_end(rt: HostRuntime) -> Result<(), Fail> {
         ("ab*c", 9, "", Some(ReadErr::Failed)),
         ("!*", 9, "", Some(ReadErr::Failed)),
     ] {
-        let mut source = StdSource::new(answering(answers));
-        match read_all(rt.alloc(), &mut source, most) {
-            Ok(read) => assert_eq!(rt; (read.as_slice(), None), (bytes.as_bytes(), error), "{answers}"),
-            Err(failed) => assert_eq!(rt; Some(failed), error, "{answers}"),
-        }
+        let held = gives(rt.alloc(), answers, most, bytes, error);
+        assert!(rt; held, "{answers}");
     }
     Ok(())
 }
@@ -104,7 +116,11 @@ fn a_writer_is_given_the_piece_and_flushed(rt: HostRuntime) -> Result<(), Fail> 
         };
         let result = put(&mut StdSink::new(&mut device), b"abc");
         assert_eq!(rt; result, answer, "{writes} {flushes}");
-        assert_eq!(rt; device.taken.as_slice(), taken.as_bytes(), "{writes} {flushes}");
+        assert_eq!(rt;
+            device.taken.as_slice(),
+            taken.as_bytes(),
+            "{writes} {flushes}"
+        );
         assert_eq!(rt; device.flushed, flushed, "{writes} {flushes}");
     }
     Ok(())

@@ -1,4 +1,4 @@
-use Rattle.std.proofs.Common.{◌+◌, ◌-◌, ◌<◌, arith}
+use Rattle.std.proofs.Common.{arith}
 use Rattle.cv_io.proofs.KnownBytes.{GaveMoreThan-front}
 use Rattle.cv_io.proofs.source.read_all.Goals as goal
 
