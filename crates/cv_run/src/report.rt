@@ -76,7 +76,12 @@ fn lines(alloc: Global, winners: &Winners) -> Result<Vec<u8>, AllocError>
 }
 
 // Adds the line of a name and its value.
-fn push_line(alloc: Global, text: &mut Vec<u8>, name: &Name, value: &[Token]) -> Result<(), AllocError>
+fn push_line(
+    alloc: Global,
+    text: &mut Vec<u8>,
+    name: &Name,
+    value: &[Token],
+) -> Result<(), AllocError>
     ensures { OnOk result (text.new.items ≡ text.old.items ++ line (name.now, value.now)) }
 {
     text.extend_from_slice(b"0 ")?;

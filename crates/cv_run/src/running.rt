@@ -9,10 +9,10 @@ ghost use Rattle.cv_run.specs.StatusLines.{line_of};
 ghost use Rattle.cv_run.specs.Words.{IsCompute, texts_of};
 
 use crate::document::{read_json, style_in};
+use crate::report::report;
 use crate::status::Status;
 use crate::words::is_compute;
 use cv_io::{ReadErr, Sink, SinkErr, Source, put, read_all};
-use crate::report::report;
 use serde_json::Value;
 use std::alloc::{AllocError, Global};
 

@@ -18,8 +18,7 @@ pub fn is_plain_text(text: &[u8]) -> bool
 fn is_plain(byte: u8) -> bool
     ensures { result ≡ is_plain byte }
 {
-    byte.is_ascii_alphanumeric()
-        || matches!(byte, b'_' | b'-' | b'.' | b':' | b';' | b' ' | b'\n')
+    byte.is_ascii_alphanumeric() || matches!(byte, b'_' | b'-' | b'.' | b':' | b';' | b' ' | b'\n')
 }
 
 /// Whether each item is a declaration of a custom property whose value is built.
