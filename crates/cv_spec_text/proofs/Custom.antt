@@ -59,7 +59,7 @@ from_characters (a ∷ b ∷ c ∷ cs) custom =
     let b_is : b ≡ hyphen = same_number b hyphen second in
     let rest = encode_utf8 c ++ encode_utf8_all cs in
     let some : 0 < length rest =
-        omega (arith, length-append (encode_utf8 c) (encode_utf8_all cs), length-encode c, (len_utf8_bounds c).0) in
+    omega (arith, length-append (encode_utf8 c) (encode_utf8_all cs), length-encode c, (len_utf8_bounds c).0) in
     ap (λ (l : List ℕ). is_custom (encode_utf8_all l)) (ap (λ (x : ℕ). x ∷ b ∷ c ∷ cs) a_is ∙ ap (λ (x : ℕ). hyphen ∷ x ∷ c ∷ cs) b_is)
     ∙ ap is_custom (sym (after_hyphen (encode_utf8 hyphen ++ rest)) ∙ ap (λ (l : List ℕ). hyphen ∷ l) (sym (after_hyphen rest)))
     ∙ custom_by_length rest some
