@@ -1,5 +1,5 @@
 -- The laws of the comparison of keys, which its `impl` cites.
-use Rattle.std.proofs.Common.{◌≡◌, ℕ, List, [], ◌∷◌, refl, sym, ap, ◌∙◌, true, encode_utf8_all}
+use Rattle.std.proofs.Common.{◌≡◌, ap, true, encode_utf8_all}
 use Rattle.std.specs.Cmp.{IsEquivalence, on_equiv}
 use Rattle.std.specs.Cmp.Lexicographic.{nat_list_eq_equiv}
 use Rattle.std.specs.Hash as fed

@@ -2,7 +2,9 @@
 #![tactic(auto)]
 
 mod key;
+mod laws;
 mod property;
 
 pub use key::{Key, key_text};
+pub use laws::properties_are_found;
 pub use property::Property;

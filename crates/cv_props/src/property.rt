@@ -178,7 +178,10 @@ fn property_at(properties: &[Property], at: usize) -> Option<Property>
 fn first_named(text: &Name, properties: &[Property]) -> Option<Property>
     ensures { result ≡ find (is_name_of text.now) properties.now }
 {
-    properties.iter().copied().find(|property| property.is_named(text))
+    properties
+        .iter()
+        .copied()
+        .find(|property| property.is_named(text))
 }
 
 /// The property with this name, without ASCII case.
