@@ -225,7 +225,7 @@ begins-positive text begins = grind (arith, nat_tests)
 none-zero : (text : List ℕ) → begins_number text ≡ false → number_length text ≡ 0
 none-zero text none = grind (arith, nat_tests)
 
-within_text : (text : List ℕ) → number_length text ≤ length text
+pub within_text : (text : List ℕ) → number_length text ≤ length text
 unfolding number_length
 within_text text =
     let sign = sign_length text in
