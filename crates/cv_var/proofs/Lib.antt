@@ -1,3 +1,5 @@
 pub mod Unfolding
 pub mod Stretches
 pub mod Finding
+pub mod PartSteps
+pub mod Lending
