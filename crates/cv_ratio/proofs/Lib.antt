@@ -5,3 +5,4 @@ pub mod LowestTerms
 pub mod Order
 pub mod Quotients
 pub mod Reciprocal
+pub mod Whole

@@ -1,0 +1,16 @@
+//! Calculations: units, types and trees, with what they mean.
+#![tactic(auto)]
+
+pub mod calc;
+pub mod context;
+mod names;
+mod product;
+mod shape;
+mod types;
+pub mod unit;
+
+pub use calc::Calc;
+pub use context::{Basis, Context, to_canonical};
+pub use names::{unit_name, unit_named};
+pub use shape::{holds_numbers, is_linear, type_of};
+pub use unit::{Base, NumType, Unit};
