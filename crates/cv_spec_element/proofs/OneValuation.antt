@@ -1,0 +1,64 @@
+-- The equations have one solution, and what settles each value once is it.
+use Rattle.std.proofs.Common.{◌≡◌, true, suc, List, length, Ok, sym, ◌∙◌, subst}
+use Rattle.cv_spec_element.specs.Words.{HasUnit}
+use Rattle.cv_spec_element.specs.Element.{Outcome, invalid, Element}
+use Rattle.cv_spec_element.specs.Dependencies.{Holds, Reads}
+use Rattle.cv_spec_element.specs.Valuation.{SubIs, Gives, IsValuation, HasOneValuation, IsSettled}
+use Rattle.cv_spec_element.specs.Premises.{IsLawful}
+use Rattle.cv_spec_element.proofs.Solutions.{after, unique, exists, sound, by_edges}
+use Rattle.cv_spec_element.proofs.RightSide.{next_outcome, gives_next, next_gives}
+use Rattle.cv_spec_element.proofs.Sound.{IsSound, decide, equations_read, unit_held}
+
+module _ {K T V U M : Type 0} (e : Element K T V U M) (laws : IsLawful e) where
+  abbrev next : (K → Outcome T V) → K → Outcome T V
+  next = next_outcome e (decide e laws)
+
+  valuation_next : (values : K → Outcome T V) → IsValuation e values → (p : K) → values p ≡ next values p
+  valuation_next values solves p = gives_next e (decide e laws) values p (values p) (solves p)
+
+  valuation_from_next : (values : K → Outcome T V) → ((p : K) → values p ≡ next values p) → IsValuation e values
+  valuation_from_next values fixed p = subst (λ o. Gives e values p o) (sym (fixed p)) (next_gives e (decide e laws) values p)
+
+  last : K → Outcome T V
+  last = after next (λ q. invalid) (suc (length e.declarations.names))
+
+  last_next : (p : K) → last p ≡ next last p
+  unfolding last
+  last_next = exists e.declarations.names (Reads e) next (IsSound e laws) (equations_read e laws) (λ q. invalid)
+
+  pub one_valuation : HasOneValuation e
+  one_valuation = record {
+    valuation = last;
+    solves = valuation_from_next last last_next;
+    only = λ values solves. unique e.declarations.names (Reads e) next (IsSound e laws) (equations_read e laws) values last (valuation_next values solves) last_next;
+  }
+
+  -- in a solution each font unit after substitution is held
+  pub units_held : (values : K → Outcome T V) → IsValuation e values → (p : K) (list : List T) (u : U) → SubIs e values p (Ok list) → e.words.is_font_unit u ≡ true → HasUnit e.words list u → Holds e p u
+  units_held values solves p list u sub_is font has =
+      unit_held e laws values p sub_is.0 sub_is.1 (λ q refers. sound e.declarations.names (Reads e) next (IsSound e laws) (equations_read e laws) values (valuation_next values solves) q) list u sub_is.2 font has
+
+  -- values that were settled once are the solution's
+  settled_is_last : (values : K → Outcome T V) → ((p : K) → IsSettled e values p) → (p : K) → values p ≡ last p
+  settled_is_last values settled = by_edges e.declarations.names (Reads e) next (IsSound e laws) (equations_read e laws) (λ p. values p ≡ last p) step
+    where
+      step : (p : K) → ((q : K) → Reads e p q → values q ≡ last q) → values p ≡ last p
+      step p before =
+          let reads = equations_read e laws in
+          let all_sound = sound e.declarations.names (Reads e) next (IsSound e laws) (equations_read e laws) last last_next in
+          let alike = reads.step last (settled p).earlier p (λ q here. (sym ((settled p).kept q here ∙ before q here), all_sound q)) in
+          gives_next e (decide e laws) (settled p).earlier p (values p) (settled p).given ∙ sym alike.0 ∙ sym (last_next p)
+
+  pub settled_solves : (values : K → Outcome T V) → ((p : K) → IsSettled e values p) → IsValuation e values
+  settled_solves values settled =
+      valuation_from_next values (λ p. settled_is_last values settled p ∙ last_next p ∙ next_same p)
+    where
+      next_same : (p : K) → next last p ≡ next values p
+      next_same p =
+          let reads = equations_read e laws in
+          let all_sound = sound e.declarations.names (Reads e) next (IsSound e laws) (equations_read e laws) last last_next in
+          (reads.step last values p (λ q here. (sym (settled_is_last values settled q), all_sound q))).0
+
+  pub one_value : (values : K → Outcome T V) (p : K) (one other : Outcome T V) → Gives e values p one → Gives e values p other → other ≡ one
+  one_value values p one other first second =
+      gives_next e (decide e laws) values p other second ∙ sym (gives_next e (decide e laws) values p one first)
