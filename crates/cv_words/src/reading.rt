@@ -1,0 +1,73 @@
+// The words of the command line, read with clap.
+ghost use Rattle.std.specs.Prelude.{◌≡◌, ◌≤◌, ◌^◌, ◌<◌, ℕ, List, Some, IfOk, IfSome, IsErrOf, option_map, string_bytes};
+ghost use Rattle.clap.specs.Words.{found_of};
+ghost use Rattle.cv_words.specs.Words.{HasJob, HasNumber, HasWords, IsGiven, IsReadFrom, IsRefused, MayGiveJob, MayGiveNumber, texts_of};
+
+use crate::command::command;
+use crate::{Job, Words, WordsErr};
+use clap::ArgMatches;
+use clap::error::ErrorKind;
+use std::alloc::Global;
+
+static JOBS: [&str; 1] = ["compute"];
+
+/// The job and the numbers of the options, by clap's definition of what the words match. `Refused` comes exactly where clap's
+/// definition of a line that the command takes doesn't hold.
+pub fn read_words(alloc: Global, words: &[String]) -> Result<Words, WordsErr>
+    ensures read { IfOk result (λ read. HasWords (texts_of words.now) read) }
+    ensures refused { IsErrOf result WordsErr.Refused → IsRefused (texts_of words.now) }
+{
+    let Ok(command) = command(alloc, JOBS.as_slice()) else {
+        return Err(WordsErr::Memory);
+    };
+    match command.try_get_matches_from(words) {
+        Ok(matches) => Ok(read_matches(&matches)),
+        Err(error) => {
+            if error.kind() == ErrorKind::OutOfMemory {
+                Err(WordsErr::Memory)
+            } else {
+                Err(WordsErr::Refused)
+            }
+        }
+    }
+}
+
+// What the matches say.
+fn read_matches(matches: &ArgMatches<'_>) -> Words
+    requires { IsGiven (found_of matches.now) }
+    ensures { IsReadFrom (found_of matches.now) result }
+{
+    Words {
+        job: job(matches),
+        limit: number(matches, "limit", 32768),
+        size: number(matches, "size", 4096),
+    }
+}
+
+// The job that the matches name.
+fn job(matches: &ArgMatches<'_>) -> Job
+    requires { MayGiveJob (found_of matches.now) }
+    ensures { HasJob (found_of matches.now) result }
+{
+    let Some(name) = matches.get_str("job") else {
+        unreachable!()
+    };
+    let Some(job) = Job::named(name) else {
+        unreachable!()
+    };
+    job
+}
+
+// The number of an option, from 1 to the most.
+fn number(matches: &ArgMatches<'_>, id: &str, most: u32) -> u32
+    requires { MayGiveNumber (found_of matches.now) id.now most }
+    ensures { HasNumber (found_of matches.now) id.now most result }
+{
+    let Some(text) = matches.get_str(id) else {
+        unreachable!()
+    };
+    let Ok(number) = text.parse::<u32>() else {
+        unreachable!()
+    };
+    number
+}
