@@ -2,3 +2,4 @@ pub mod Table
 pub mod Keys
 pub mod KeyLaws
 pub mod TableLaws
+pub mod Valuations

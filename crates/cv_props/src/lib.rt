@@ -3,8 +3,10 @@
 
 mod key;
 mod laws;
+mod outcome;
 mod property;
 
 pub use key::{Key, key_text};
 pub use laws::properties_are_found;
+pub use outcome::{Outcome, Valuation, outcome_text};
 pub use property::Property;
