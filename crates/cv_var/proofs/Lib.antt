@@ -1,0 +1,3 @@
+pub mod Unfolding
+pub mod Stretches
+pub mod Finding

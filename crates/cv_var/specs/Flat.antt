@@ -1,0 +1,15 @@
+-- The pieces of a list in one flat list: behind a reference come the pieces of its fallback, if it has one, and their number is told.
+use Rattle.std.specs.Prelude.{ℕ, List, [], ◌∷◌, ◌++◌, length, Option, Some, None}
+use Rattle.cv_spec_text.specs.declared.token.Token.{Token}
+use Rattle.cv_spec_element.specs.Pieces.{Pieces, finish, token, reference, reference_or}
+
+pub data FlatPiece : Type 0 where
+  flat_token : Token → FlatPiece
+  flat_reference : List ℕ → Option ℕ → FlatPiece
+
+abbrev pub flattened : Pieces (List ℕ) Token → List FlatPiece
+flattened finish = []
+flattened (token t rest) = flat_token t ∷ flattened rest
+flattened (reference n rest) = flat_reference n None ∷ flattened rest
+flattened (reference_or n fallback rest) =
+    flat_reference n (Some (length (flattened fallback))) ∷ (flattened fallback ++ flattened rest)

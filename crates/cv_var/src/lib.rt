@@ -1,0 +1,11 @@
+//! Declared lists: values, and the references in them.
+#![tactic(auto)]
+
+mod place;
+mod reference;
+mod refusal;
+mod segment;
+mod value;
+
+pub use refusal::{VarErr, check_tokens};
+pub use segment::Segment;

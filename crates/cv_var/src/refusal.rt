@@ -1,0 +1,46 @@
+// The check of a declared list.
+ghost use Rattle.std.specs.Prelude.{◌≡◌, OnOk, IfErr};
+ghost use Rattle.cv_var.specs.Checked.{IsChecked, HasCause};
+
+use crate::reference::bad_var;
+use crate::value::bad_place;
+use cv_component::is_too_deep;
+use cv_spec_text::{OutOfMemory, Token};
+use std::alloc::Global;
+
+/// Why a list is refused.
+#[derive(Clone, Copy, Debug)]
+pub enum VarErr {
+    TooDeep,
+    BadValue(usize),
+    BadVar(usize),
+    Memory,
+}
+
+impl From<OutOfMemory> for VarErr {
+    ghost use Rattle.std.specs.Prelude.{◌≡◌};
+    ghost use Rattle.cv_var.specs.declared.refusal.VarErr.{VarErr};
+
+    ghost from_gives = { λ _ e. e ≡ VarErr.Memory };
+
+    fn from(_error: OutOfMemory) -> Self {
+        VarErr::Memory
+    }
+}
+
+/// Tests a list against the rules of a declared one.
+pub fn check_tokens(alloc: Global, tokens: &[Token]) -> Result<(), VarErr>
+    ensures ok { OnOk result (IsChecked tokens.now) }
+    ensures err { IfErr result (HasCause tokens.now) }
+{
+    if is_too_deep(tokens) {
+        return Err(VarErr::TooDeep);
+    }
+    if let Some(place) = bad_place(alloc, tokens)? {
+        return Err(VarErr::BadValue(place));
+    }
+    if let Some(place) = bad_var(alloc, tokens)? {
+        return Err(VarErr::BadVar(place));
+    }
+    Ok(())
+}
