@@ -1,9 +1,8 @@
 -- The values that a list of entries gives.
-use Rattle.std.proofs.Common.{◌≡◌, ℕ, Bool, true, false, cond, List, [], ◌∷◌, Option, Some, None, refl, sym, ap, ◌∙◌, subst, unwrap_or}
+use Rattle.std.proofs.Common.{◌≡◌, Bool, true, false, cond, List, [], ◌∷◌, Option, Some, None, refl, sym, ap, ◌∙◌, subst, unwrap_or, ◌≢◌}
 use Rattle.std.specs.Prelude.{All}
 use Rattle.std.specs.FinMap as map
-use Rattle.std.specs.Ordering.{eq_by_cmp}
-use Rattle.std.proofs.lemmas.List.Elements.{All-cons, All-head, All-tail, All-nil}
+use Rattle.std.proofs.lemmas.List.Elements.{All-cons, All-head, All-tail}
 use Rattle.indexmap.specs.IndexMap.{insert_entry}
 use Rattle.std.specs.Map.{lookup}
 use Rattle.cv_spec_text.specs.declared.token.Token.{Token}
@@ -13,6 +12,7 @@ use Rattle.cv_props.specs.declared.outcome.Outcome.TheVariants.{Tokens, Invalid}
 use Rattle.cv_props.specs.Keys.{key_cmp, same_key}
 use Rattle.cv_props.specs.KeyLaws.{same_key_equiv}
 use Rattle.cv_props.specs.Valuations.{Values, outcome_of, outcome_at, with_outcome, valuation_of, MayKeep, IsKeptEntry}
+use Rattle.cv_props.specs.ValuationLaws.{OutcomesAreByKey}
 use Rattle.cv_props.proofs.KeyOrder.{equal_keys, key_cmp_total, key_cmp_antisymmetric, tied_keys}
 
 abbrev Entry : Type 0
@@ -71,9 +71,9 @@ first_tokens-insert_entry q key outcome (e ∷ es) = by (first_tokens-insert_ent
 pub valuation_of-insert_entry : (es : List Entry) (key : Key) (outcome : Outcome) → valuation_of (insert_entry same_key es key outcome) ≡ with_outcome (valuation_of es) key outcome
 valuation_of-insert_entry es key outcome =
     map.same_map key_cmp_total key_cmp_antisymmetric _ _ (λ q.
-        get-valuation_of (insert_entry same_key es key outcome) q
-        ∙ first_tokens-insert_entry q key outcome es
-        ∙ sym (get-with_outcome (valuation_of es) key outcome q ∙ ap (cond (same_key q key) (tokens_of outcome)) (get-valuation_of es q)))
+    get-valuation_of (insert_entry same_key es key outcome) q
+    ∙ first_tokens-insert_entry q key outcome es
+    ∙ sym (get-with_outcome (valuation_of es) key outcome q ∙ ap (cond (same_key q key) (tokens_of outcome)) (get-valuation_of es q)))
 
 -- what may be kept is kept once an entry is put
 pub All-insert_entry : (es : List Entry) (key : Key) (outcome : Outcome) → All IsKeptEntry es → MayKeep key outcome → All IsKeptEntry (insert_entry same_key es key outcome)
@@ -111,3 +111,37 @@ kept-lookup key (e ∷ es) outcome all found = by (kept-lookup key es outcome (A
         let is : e.1 ≡ outcome = cc in
         subst (λ o. MayKeep key o) is (subst (λ k. MayKeep k e.1) (sym (equal_keys key e.0 same)) (All-head IsKeptEntry e es all))
     by rest false other found = rest found
+
+same_itself : (key : Key) → same_key key key ≡ true
+same_itself key = same_key_equiv.refl key
+
+outcome_none : (key : Key) → outcome_at map.empty key ≡ Invalid
+outcome_none key = ap outcome_of (map.get-empty key_cmp key)
+
+outcome_here : (values : Values) (key : Key) (outcome : Outcome) → outcome_at (with_outcome values key outcome) key ≡ outcome
+outcome_here values key outcome =
+    ap outcome_of (get-with_outcome values key outcome key ∙ ap (λ b. cond b (tokens_of outcome) (map.get values key)) (same_itself key))
+    ∙ outcome_of-tokens_of outcome
+
+not_same : (a b : Key) → a ≢ b → same_key a b ≡ false
+not_same a b apart = by (same_key a b) refl
+  where
+    by : (t : Bool) → same_key a b ≡ t → same_key a b ≡ false
+    by true same = absurd (apart (equal_keys a b same))
+    by false other = other
+
+outcome_elsewhere : (values : Values) (key : Key) (outcome : Outcome) (other : Key) → other ≢ key → outcome_at (with_outcome values key outcome) other ≡ outcome_at values other
+outcome_elsewhere values key outcome other apart =
+    ap outcome_of (get-with_outcome values key outcome other ∙ ap (λ b. cond b (tokens_of outcome) (map.get values other)) (not_same other key apart))
+
+tokens_of-outcome_of : (found : Option (List Token)) → tokens_of (outcome_of found) ≡ found
+tokens_of-outcome_of None = refl
+tokens_of-outcome_of (Some tokens) = refl
+
+same_values : (values others : Values) → ((key : Key) → outcome_at values key ≡ outcome_at others key) → values ≡ others
+same_values values others alike =
+    map.same_map key_cmp_total key_cmp_antisymmetric values others (λ key.
+    sym (tokens_of-outcome_of (map.get values key)) ∙ ap tokens_of (alike key) ∙ tokens_of-outcome_of (map.get others key))
+
+pub outcomes_are_by_key : OutcomesAreByKey
+outcomes_are_by_key = record { none = outcome_none; here = outcome_here; elsewhere = outcome_elsewhere; same = same_values }

@@ -3,3 +3,4 @@ pub mod Keys
 pub mod KeyLaws
 pub mod TableLaws
 pub mod Valuations
+pub mod ValuationLaws

@@ -1,14 +1,15 @@
 -- What the properties of an element stand for (Cascading Variables 1, "Using Cascading Variables": a property without a value is
 -- guaranteed-invalid).
-use Rattle.std.specs.Prelude.{ℕ, ◌≡◌, Bool, true, false, ◌||◌, List, [], ◌∷◌, ◌++◌, codes, All, Option, Some, None}
+use Rattle.std.specs.Prelude.{ℕ, ◌≡◌, Bool, true, false, List, [], ◌∷◌, ◌++◌, codes, All, Option, Some, None}
 use Rattle.std.specs.FinMap as map
 use Rattle.cv_spec_text.specs.Characters.{space}
-use Rattle.cv_spec_text.specs.Keywords.{is_custom, is_css_wide_keyword, is_word}
+use Rattle.cv_spec_text.specs.Keywords.{is_custom, is_css_wide_keyword}
 use Rattle.cv_spec_text.specs.Printing.{bytes}
 use Rattle.cv_spec_text.specs.Splits.{IsSpelt}
 use Rattle.cv_spec_text.specs.declared.token.Token.{Token}
-use Rattle.cv_spec_text.specs.declared.token.Token.TheVariants.{Ident, Function}
+use Rattle.cv_spec_text.specs.declared.token.Token.TheVariants.{Ident}
 use Rattle.cv_component.specs.TopLevel.{trim_front, trim_end}
+use Rattle.cv_var.specs.References.{has_var}
 use Rattle.cv_props.specs.declared.key.Key.{Key}
 use Rattle.cv_props.specs.declared.key.Key.TheVariants.{Custom, Table}
 use Rattle.cv_props.specs.declared.outcome.Outcome.{Outcome}
@@ -26,6 +27,10 @@ outcome_of (Some tokens) = Tokens tokens
 
 abbrev pub outcome_at : Values → Key → Outcome
 outcome_at values key = outcome_of (map.get values key)
+
+-- the tokens that a reference to this name stands for, if it isn't invalid
+abbrev pub values_of : Values → List ℕ → Option (List Token)
+values_of values name = map.get values (Custom name)
 
 -- the values with this outcome for the key, and every other as it was
 abbrev pub with_outcome : Values → Key → Outcome → Values
@@ -48,15 +53,6 @@ is_keyword _ = false
 
 abbrev pub trim : List Token → List Token
 trim tokens = trim_end (trim_front tokens)
-
--- TEMPORARY until cv_var is there
-abbrev pub is_var : Token → Bool
-is_var (Function name) = is_word (codes "var") name
-is_var _ = false
-
-abbrev pub has_var : List Token → Bool
-has_var [] = false
-has_var (first ∷ rest) = is_var first || has_var rest
 
 -- Tokens that may be kept for a key: those of a custom property, with no reference in them, that are no CSS-wide keyword.
 pub record IsKept (key : Key) (tokens : List Token) : Type 0 where

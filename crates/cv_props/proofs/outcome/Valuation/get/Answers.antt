@@ -1,4 +1,4 @@
-use Rattle.std.proofs.Common.{◌≡◌, ◌∙◌, ap, sym, unwrap_or, Some, None}
+use Rattle.std.proofs.Common.{◌∙◌, ap, sym, unwrap_or}
 use Rattle.cv_props.specs.declared.outcome.Outcome.TheVariants.{Invalid}
 use Rattle.cv_props.specs.Valuations.{outcome_at}
 use Rattle.cv_props.proofs.Outcomes.{outcome_at-valuation_of, kept-lookup}

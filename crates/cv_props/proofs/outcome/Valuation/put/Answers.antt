@@ -1,4 +1,4 @@
-use Rattle.std.proofs.Common.{◌≡◌, ◌∙◌, ap, sym, subst}
+use Rattle.std.proofs.Common.{◌∙◌, ap, sym, subst}
 use Rattle.std.specs.Prelude.{All}
 use Rattle.cv_props.specs.Valuations.{IsKeptEntry, valuation_of, with_outcome}
 use Rattle.cv_props.proofs.Outcomes.{All-insert_entry, valuation_of-insert_entry}
