@@ -1,3 +1,4 @@
 pub mod Unfolding
 pub mod Stretches
 pub mod Finding
+pub mod PartSteps

@@ -38,6 +38,10 @@ slice_get-drop zero xs k = ap (slice_get xs) (start k)
 slice_get-drop (suc n) [] k = sym (slice_get_past [] (suc n + k) (omega arith))
 slice_get-drop (suc n) (x ∷ xs) k = slice_get-drop n xs k ∙ ap (slice_get (x ∷ xs)) (next n k)
 
+name_of-within : (whole : List Token) (place : ℕ) (name : List ℕ) (found : Option Token) → slice_get whole place ≡ found → name_of found ≡ Some name → place < length whole
+name_of-within whole place name None is named = absurd cc
+name_of-within whole place name (Some t) is named = slice_get_within whole place t is
+
 -- a token of a stretch is one of the list
 pub slice_get-stretch : (whole : List Token) (a b k : ℕ) (t : Token) → slice_get (stretch whole a b) k ≡ Some t → slice_get whole (k + a) ≡ Some t
 slice_get-stretch whole a b k t is =
@@ -86,3 +90,57 @@ StandsAt-moved whole a b found new reference le name_is fallback_is stands = rec
 -- the tokens from a place on
 pub drop-stretch : (whole : List Token) (a : ℕ) → drop a whole ≡ stretch whole a (length whole)
 drop-stretch whole a = sym (take_rest whole a)
+
+take_none : {X : Type 0} (n : ℕ) → ◌≡◌ {A = List X} (take n []) []
+take_none zero = refl
+take_none (suc n) = refl
+
+drop_of_take : {X : Type 0} (k n : ℕ) (xs : List X) → drop k (take n xs) ≡ take (n - k) (drop k xs)
+drop_of_take zero n xs = let same : n ≡ n - 0 = omega arith in ap (λ m. take m xs) same
+drop_of_take (suc k) zero xs = let none : 0 ≡ 0 - suc k = omega arith in ap (λ m. take m (drop (suc k) xs)) none
+drop_of_take (suc k) (suc n) [] = sym (take_none (suc n - suc k))
+drop_of_take (suc k) (suc n) (x ∷ xs) = let same : n - k ≡ suc n - suc k = omega arith in drop_of_take k n xs ∙ ap (λ m. take m (drop k xs)) same
+
+-- what comes behind the front of a stretch is a stretch
+pub drop_of_stretch : (whole : List Token) (a b k : ℕ) → drop k (stretch whole a b) ≡ stretch whole (a + k) b
+drop_of_stretch whole a b k =
+    let same : b - a - k ≡ b - (a + k) = omega arith in
+    drop_of_take k (b - a) (drop a whole)
+    ∙ ap (take (b - a - k)) (drop-drop k a whole)
+    ∙ ap (λ n. take n (drop (a + k) whole)) same
+
+pub record BeginsWith (whole : List Token) (a b : ℕ) : Type 0 where
+  pub token : Token
+  pub at : slice_get whole a ≡ Some token
+  pub is : stretch whole a b ≡ token ∷ stretch whole (a + 1) b
+
+pub record Has (whole : List Token) (a : ℕ) : Type 0 where
+  pub token : Token
+  pub at : slice_get whole a ≡ Some token
+  pub is : drop a whole ≡ token ∷ drop (suc a) whole
+
+has : (whole : List Token) (a : ℕ) → a < length whole → Has whole a
+has [] a lt = absurd (omega arith)
+has (t ∷ rest) zero lt = record { token = t; at = refl; is = refl }
+has (t ∷ rest) (suc a) lt = let more = has rest a (omega arith) in record { token = more.token; at = more.at; is = more.is }
+
+-- the first token of a stretch
+pub begins_with : (whole : List Token) (a b : ℕ) → a < b → b ≤ length whole → BeginsWith whole a b
+begins_with whole a b lt within =
+    let one = has whole a (omega arith) in
+    let size : b - a ≡ suc (b - (a + 1)) = omega arith in
+    let behind : suc a ≡ a + 1 = omega arith in
+    record {
+      token = one.token;
+      at = one.at;
+      is =
+          ap (λ n. take n (drop a whole)) size
+          ∙ ap (take (suc (b - (a + 1)))) one.is
+          ∙ ap (λ k. one.token ∷ take (b - (a + 1)) (drop k whole)) behind;
+    }
+
+pub length-stretch : (whole : List Token) (a b : ℕ) → a ≤ b → b ≤ length whole → length (stretch whole a b) ≡ b - a
+length-stretch whole a b ordered within = omega (arith, length-take (b - a) (drop a whole), length-drop a whole)
+
+pub name-within : (whole : List Token) (place : ℕ) (name : List ℕ) → name_at whole place ≡ Some name → place < length whole
+name-within whole place name named = name_of-within whole place name (slice_get whole place) refl named

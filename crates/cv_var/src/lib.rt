@@ -1,6 +1,7 @@
 //! Declared lists: values, and the references in them.
 #![tactic(auto)]
 
+mod parts;
 mod place;
 mod reference;
 mod refusal;
