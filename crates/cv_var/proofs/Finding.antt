@@ -1,15 +1,13 @@
 -- A reference that is found stands at the places that are told.
-use Rattle.std.proofs.Common.{◌≡◌, ℕ, suc, zero, ◌+◌, ◌-◌, ◌<◌, ◌≤◌, List, [], ◌∷◌, length, take, drop, Option, Some, None, refl, sym, ◌∙◌, ap, subst, length-drop, arith}
-use Rattle.std.specs.Prelude.{Bool, true, false, slice_get, if◌then◌else◌}
+use Rattle.std.proofs.Common.{◌≡◌, ℕ, ◌+◌, ◌-◌, ◌≤◌, List, [], ◌∷◌, length, drop, Option, Some, None, refl, sym, ◌∙◌, ap, subst, length-drop, arith}
+use Rattle.std.specs.Prelude.{true}
 use Rattle.std.proofs.lemmas.List.{drop-drop}
-use Rattle.cv_spec_text.specs.Keywords.{is_custom}
 use Rattle.cv_spec_text.specs.declared.token.Token.{Token}
-use Rattle.cv_spec_text.specs.declared.token.Token.TheVariants.{Ident}
 use Rattle.cv_component.specs.Blocks.{matching}
 use Rattle.cv_component.specs.TopLevel.{trim_front}
 use Rattle.cv_var.specs.declared.place.Extent.{Extent}
 use Rattle.cv_var.specs.declared.place.Found.{Found}
-use Rattle.cv_var.specs.References.{Reference, name_in, fallback_in, named_fallback_in, reference_in, inner_to, begins_var, reference_at}
+use Rattle.cv_var.specs.References.{name_in, fallback_in, named_fallback_in, reference_in, inner_to, begins_var, reference_at}
 use Rattle.cv_var.specs.Places.{stretch, name_of, name_at, fallback_at, IsWithin, moved, StandsAt}
 use Rattle.cv_var.proofs.Stretches.{slice_get-drop, fallback_at-stretch, IsWithin-moved, StandsAt-moved, drop-stretch}
 

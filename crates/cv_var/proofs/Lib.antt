@@ -2,3 +2,4 @@ pub mod Unfolding
 pub mod Stretches
 pub mod Finding
 pub mod PartSteps
+pub mod Lending

@@ -1,9 +1,8 @@
 -- The steps of the walk that gathers the parts of a list.
-use Rattle.std.proofs.Common.{◌≡◌, ℕ, suc, ◌+◌, ◌-◌, ◌<◌, ◌≤◌, List, [], ◌∷◌, ◌++◌, length, drop, map, Option, Some, None, refl, sym, ◌∙◌, ap, subst, append_assoc, append-nil, arith}
-use Rattle.std.specs.Prelude.{slice_get, option_map}
+use Rattle.std.proofs.Common.{◌≡◌, ℕ, ◌+◌, ◌-◌, ◌<◌, ◌≤◌, List, [], ◌∷◌, ◌++◌, length, drop, map, Option, Some, None, refl, sym, ◌∙◌, ap, subst, append_assoc, append-nil, arith}
+use Rattle.std.specs.Prelude.{option_map}
 use Rattle.std.proofs.lemmas.List.{map-append, length-map}
 use Rattle.cv_spec_text.specs.declared.token.Token.{Token as CssToken}
-use Rattle.cv_spec_element.specs.Pieces.{Pieces}
 use Rattle.cv_var.specs.declared.place.Extent.{Extent}
 use Rattle.cv_var.specs.declared.place.Found.{Found}
 use Rattle.cv_var.specs.declared.place.Place.{Place}
@@ -11,7 +10,7 @@ use Rattle.cv_var.specs.declared.place.Place.TheVariants.{Token, Reference}
 use Rattle.cv_var.specs.Flat.{FlatPiece, flat_token, flat_reference, flattened}
 use Rattle.cv_var.specs.Places.{stretch, name_at, fallback_at, flat_at, IsWithin, moved, StandsAt}
 use Rattle.cv_var.specs.References.{reference_at, function_size, first_piece, pieces_of}
-use Rattle.cv_var.proofs.Stretches.{BeginsWith, begins_with, drop_of_stretch, StandsAt-moved, length-stretch, name-within}
+use Rattle.cv_var.proofs.Stretches.{begins_with, drop_of_stretch, StandsAt-moved, length-stretch, name-within}
 use Rattle.cv_var.proofs.Unfolding.{FallbackWithin, reference_at-within, pieces_of-more, pieces_of-nil}
 
 -- the pieces of a list that begins with this token

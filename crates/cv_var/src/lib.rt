@@ -1,6 +1,8 @@
 //! Declared lists: values, and the references in them.
 #![tactic(auto)]
 
+mod declared;
+mod flat;
 mod parts;
 mod place;
 mod reference;
@@ -8,5 +10,7 @@ mod refusal;
 mod segment;
 mod value;
 
-pub use refusal::{VarErr, check_tokens};
+pub use declared::{Declared, check};
+pub use flat::Part;
+pub use refusal::VarErr;
 pub use segment::Segment;

@@ -1,6 +1,8 @@
 // The check of a declared list.
-ghost use Rattle.std.specs.Prelude.{◌≡◌, OnOk, IfErr};
-ghost use Rattle.cv_var.specs.Checked.{IsChecked, HasCause};
+ghost use Rattle.std.specs.Prelude.{◌≡◌, ◌⊎◌, ◌<◌, OnOk, IfErr, IsErrOf};
+ghost use Rattle.cv_component.specs.Nesting.{depth};
+ghost use Rattle.cv_var.specs.Checked.{IsChecked, IsCause};
+ghost use Rattle.cv_var.specs.declared.refusal.VarErr.{VarErr};
 
 use crate::reference::bad_var;
 use crate::value::bad_place;
@@ -11,9 +13,13 @@ use std::alloc::Global;
 /// Why a list is refused.
 #[derive(Clone, Copy, Debug)]
 pub enum VarErr {
+    /// It is nested deeper than 128.
     TooDeep,
+    /// At this place stands the first token that may not stand in a declaration value.
     BadValue(usize),
+    /// At this place stands the first `var(` that begins no reference.
     BadVar(usize),
+    /// Memory was refused.
     Memory,
 }
 
@@ -31,7 +37,8 @@ impl From<OutOfMemory> for VarErr {
 /// Tests a list against the rules of a declared one.
 pub fn check_tokens(alloc: Global, tokens: &[Token]) -> Result<(), VarErr>
     ensures ok { OnOk result (IsChecked tokens.now) }
-    ensures err { IfErr result (HasCause tokens.now) }
+    ensures too_deep { 128 < depth tokens.now → IsErrOf result VarErr.TooDeep }
+    ensures err { IfErr result (λ refusal. (refusal ≡ VarErr.Memory) ⊎ IsCause tokens.now refusal) }
 {
     if is_too_deep(tokens) {
         return Err(VarErr::TooDeep);

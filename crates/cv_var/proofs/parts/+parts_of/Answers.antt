@@ -1,4 +1,4 @@
-use Rattle.std.proofs.Common.{◌≡◌, ◌-◌, length, take, drop, length-take, arith}
+use Rattle.std.proofs.Common.{◌-◌, drop, length-take, arith}
 use Rattle.cv_var.proofs.Stretches.{length-stretch}
 use Rattle.cv_var.proofs.PartSteps.{parts_read, parts_end, parts-token, name-fits, step-bare, step-fallback, fallback-within, fallback-smaller}
 use Rattle.cv_var.proofs.parts.+parts_of.Goals as goal
@@ -35,7 +35,7 @@ parts-preserved t c =
     record {
       parts =
           elim c.match-found.branch [
-            in-None-fallback+in_ok-push-in-None-fallback w ↦
+            | in-None-fallback+in_ok-push-in-None-fallback w ↦
                 rw (w.parts-is, w.in_ok-push-in-None-fallback.ensures.items, c.function_size-at.ensures.size)
                 (parts_read c.args.tokens.now _ _ _ _ _ c.parts.invariant.parts (step-bare c.args.tokens.now c.parts.at c.args.end c.parts-test.true c.requires.within c.in-Some.found stands w.in-None-fallback.is))
             | in-Some-fallback+in_ok-inner-in-Some-fallback+in_ok-push_reference-in-Some-fallback w ↦

@@ -1,4 +1,4 @@
-use Rattle.std.proofs.Common.{◌≡◌, ◌++◌, ◌-◌, ◌≤◌, length, map, Some}
+use Rattle.std.proofs.Common.{◌≡◌, ◌++◌, ◌-◌, ◌≤◌, map, Some}
 use Rattle.cv_var.specs.Flat.{flattened}
 use Rattle.cv_var.specs.Places.{flat_at, stretch}
 use Rattle.cv_var.specs.References.{pieces_of}
