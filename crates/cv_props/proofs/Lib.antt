@@ -1,1 +1,4 @@
 mod TableTest
+mod KeyOrder
+mod Outcomes
+mod Copies

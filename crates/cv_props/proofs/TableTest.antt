@@ -28,7 +28,7 @@ counted n (suc i) (q ∷ ps) p test at =
     let (here, rest) = both (number_of q == n) (count_up (suc n) ps) test in
     omega (arith, counted (suc n) i ps p rest at)
 
-number_found : (p : Property) → numbered (number_of p) ≡ Some p
+pub number_found : (p : Property) → numbered (number_of p) ≡ Some p
 unfolding numbered number_of
 number_found p =
     elim p as (λ p. numbered (number_of p) ≡ Some p) [ FontSize ↦ refl | Color ↦ refl | LineHeight ↦ refl | LetterSpacing ↦ refl | TextIndent ↦ refl | Visibility ↦ refl | Orphans ↦ refl | Display ↦ refl | Width ↦ refl | Height ↦ refl | MinWidth ↦ refl | MinHeight ↦ refl | MaxWidth ↦ refl | MaxHeight ↦ refl | MarginTop ↦ refl | MarginRight ↦ refl | MarginBottom ↦ refl | MarginLeft ↦ refl | PaddingTop ↦ refl | PaddingRight ↦ refl | PaddingBottom ↦ refl | PaddingLeft ↦ refl | Top ↦ refl | Right ↦ refl | Bottom ↦ refl | Left ↦ refl | RowGap ↦ refl | ColumnGap ↦ refl | Opacity ↦ refl | ZIndex ↦ refl | Order ↦ refl | FlexGrow ↦ refl | FlexShrink ↦ refl | BackgroundColor ↦ refl | OutlineOffset ↦ refl ]

@@ -1,10 +1,14 @@
 //! Properties and the keys, declarations and values that belong to them.
 #![tactic(auto)]
 
+mod computed;
 mod key;
 mod laws;
+mod outcome;
 mod property;
 
+pub use computed::{Cause, Computed};
 pub use key::{Key, key_text};
-pub use laws::properties_are_found;
+pub use laws::{outcomes_are_by_key, properties_are_found};
+pub use outcome::{Outcome, Valuation, outcome_text};
 pub use property::Property;
