@@ -1,5 +1,5 @@
 -- How long a run of code points of one kind is.
-use Rattle.std.proofs.Common.{◌≡◌, ℕ, suc, ◌+◌, ◌<◌, List, [], ◌∷◌, ◌++◌, length, take, refl, arith}
+use Rattle.std.proofs.Common.{◌≡◌, ℕ, zero, suc, ◌+◌, ◌<◌, ◌≤◌, List, [], ◌∷◌, ◌++◌, length, take, refl, arith}
 use Rattle.std.specs.Prelude.{Bool, true, false, All}
 use Rattle.std.specs.List.{prefix_len}
 use Rattle.std.proofs.lemmas.List.Elements.{All-nil, All-cons, All-head, All-tail}
@@ -31,12 +31,18 @@ pub one_more : (n : ℕ) → 1 + n ≡ suc n
 one_more n = omega arith
 
 -- each code point of the run passes
-pub take-prefix_len : (p : ℕ → Bool) (text : List ℕ) → All (λ c. p c ≡ true) (take (prefix_len p text) text)
-take-prefix_len p [] = All-nil (λ c. p c ≡ true)
-take-prefix_len p (c ∷ cs) =
+pub take-run : (p : ℕ → Bool) (n : ℕ) (text : List ℕ) → n ≤ prefix_len p text → All (λ c. p c ≡ true) (take n text)
+take-run p zero text within = All-nil (λ c. p c ≡ true)
+take-run p (suc n) [] within = absurd (omega arith)
+take-run p (suc n) (c ∷ cs) within =
     bool_cases (p c)
-    (λ holds. rw (holds, one_more (prefix_len p cs)) (All-cons (λ c. p c ≡ true) c (take (prefix_len p cs) cs) holds (take-prefix_len p cs)))
-    (λ fails. rw fails (All-nil (λ c. p c ≡ true)))
+    (λ holds.
+    let more : prefix_len p (c ∷ cs) ≡ 1 + prefix_len p cs = rw holds refl in
+    All-cons (λ d. p d ≡ true) c (take n cs) holds (take-run p n cs (omega (arith, more, within))))
+    (λ fails. absurd (omega (arith, prefix_len-none p (c ∷ cs) fails, within)))
+
+pub take-prefix_len : (p : ℕ → Bool) (text : List ℕ) → All (λ c. p c ≡ true) (take (prefix_len p text) text)
+take-prefix_len p text = take-run p (prefix_len p text) text (omega arith)
 
 -- the first of some such code points passes
 pub begins-all : (p : ℕ → Bool) (xs rest : List ℕ) → 0 < length xs → All (λ c. p c ≡ true) xs → begins_by p (xs ++ rest) ≡ true

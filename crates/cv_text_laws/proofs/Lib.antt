@@ -1,3 +1,9 @@
-pub mod Tests
+pub mod Comments
 pub mod Digits
+pub mod Escapes
+pub mod Names
 pub mod Numbers
+pub mod Sequences
+pub mod Strings
+pub mod Tests
+pub mod Urls

@@ -1,6 +1,6 @@
 -- Steps by a test.
 use Rattle.std.proofs.Common.{◌≡◌, refl}
-use Rattle.std.specs.Prelude.{Bool, true, false, ◌&&◌, ◌||◌, if◌then◌else◌}
+use Rattle.std.specs.Prelude.{Bool, true, false, not, ◌&&◌, ◌||◌, if◌then◌else◌}
 
 pub if_false : {A : Type 0} (b : Bool) (x y : A) → b ≡ false → (if b then x else y) ≡ y
 if_false true x y fails = cc
@@ -21,3 +21,12 @@ both false b holds = cc
 pub neither : (a b : Bool) → (a || b) ≡ false → (a ≡ false) × (b ≡ false)
 neither true b fails = cc
 neither false b fails = (refl, fails)
+
+-- a test has one answer
+pub contrary : {A : Type 0} (a : Bool) → a ≡ true → a ≡ false → A
+contrary true holds fails = cc
+contrary false holds fails = cc
+
+pub not_true : (a : Bool) → not a ≡ true → a ≡ false
+not_true true holds = cc
+not_true false holds = refl

@@ -1,2 +1,5 @@
 pub mod Fronts
 pub mod NumberSpellings
+pub mod EscapeSpellings
+pub mod NameSpellings
+pub mod FirstEnds

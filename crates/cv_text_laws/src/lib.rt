@@ -1,6 +1,10 @@
 //! That what is read of a text is the longest that stands there, and ends at its first end, in the grammar's own words.
 #![tactic(auto)]
 
+mod ends;
 mod longest;
 
-pub use longest::numbers_are_longest;
+pub use ends::{comments_end_first, strings_end_first, urls_end_first};
+pub use longest::{
+    escapes_are_longest, names_are_longest, numbers_are_longest, whitespace_is_longest,
+};

@@ -1,7 +1,24 @@
 // What is read is the longest that stands there.
+ghost use Rattle.cv_text_laws.specs.EscapeSpellings.{EscapesAreLongest};
+ghost use Rattle.cv_text_laws.specs.NameSpellings.{NamesAreLongest, WhitespaceIsLongest};
 ghost use Rattle.cv_text_laws.specs.NumberSpellings.{NumbersAreLongest};
 
-/// A number that is read is the longest number spelling that stands there, and where none is read none stands.
+/// A number that is read is the longest spelling of a number that stands there, and where none is read none stands.
 pub fn numbers_are_longest()
     ensures { NumbersAreLongest }
+{}
+
+/// An escape that is read is the longest escape that stands there, and where none is read none stands.
+pub fn escapes_are_longest()
+    ensures { EscapesAreLongest }
+{}
+
+/// A name sequence that is read is the longest that stands there, each escape in it as long as one stands there.
+pub fn names_are_longest()
+    ensures { NamesAreLongest }
+{}
+
+/// A run of whitespace that is read is the longest that stands there.
+pub fn whitespace_is_longest()
+    ensures { WhitespaceIsLongest }
 {}
