@@ -4,4 +4,5 @@ pub mod Multiplied
 pub mod Named
 pub mod Powers
 pub mod Shapes
+pub mod Units
 pub mod Values

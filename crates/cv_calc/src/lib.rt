@@ -6,6 +6,8 @@ pub mod context;
 mod names;
 mod product;
 mod shape;
+#[cfg(test)]
+mod tests;
 mod types;
 pub mod unit;
 

@@ -1,6 +1,6 @@
 //! The fraction.
 
-ghost use Rattle.std.specs.Prelude.{◌≡◌, ◌<◌, ◌^◌, ◌*◌, ◌*ℤ◌, pos, unsigned_abs};
+ghost use Rattle.std.specs.Prelude.{◌≡◌, ◌<◌, ◌^◌, ◌*◌, ◌*ℤ◌, pos, unsigned_abs, Ok};
 ghost use Rattle.cv_ratio.specs.Ratio.{ratio, signed, add, mul, neg, reciprocal};
 ghost use Rattle.cv_frac.specs.Bounded.{bounded, of_numbers, difference_of, quotient_of};
 
@@ -124,10 +124,11 @@ impl Frac {
         self.top
     }
 
-    /// The number under the top, which is positive.
+    /// The number under the top, which is positive. The two numbers give the fraction back.
     pub fn bottom(self) -> i64
         ensures value { result ≡ pos self.bottom }
         ensures small { self.bottom < 2 ^ 63 }
+        ensures back { of_numbers self.top (pos self.bottom) ≡ Ok self }
     {
         self.bottom as i64
     }

@@ -1,6 +1,6 @@
 //! Reading a number.
 
-ghost use Rattle.std.specs.Prelude.{◌≡◌, ◌∷◌, [], ◌≤◌, ◌<◌, ◌^◌, ◌*◌, ◌-◌, IsTrue, drop, min, length};
+ghost use Rattle.std.specs.Prelude.{◌≡◌, ◌∷◌, [], ◌≤◌, ◌<◌, ◌^◌, ◌*◌, ◌-◌, IsTrue, drop, min, length, encode_utf8_all};
 ghost use Rattle.std.specs.List.{filter};
 ghost use Rattle.std.specs.Char.{is_ascii_digit};
 ghost use Rattle.std.specs.Str.Parse.{digits_value, digits_value_after};
@@ -14,6 +14,7 @@ use crate::frac::{Frac, LIMIT, lowest, part};
 use crate::spelling::{
     digits_length, fraction_length, mantissa_length, number_length, sign_length,
 };
+use cv_spec_text::Name;
 
 /// More than any power of ten that a text without an exponent can have.
 const LARGEST: u128 = 0x8_0000_0000_0000_0000;
@@ -197,5 +198,12 @@ impl Frac {
                 &unsigned[mantissa..],
             ),
         }
+    }
+
+    /// The fraction that a token's spelling means, read from its bytes.
+    pub fn read_spelling(spelling: &Name) -> Result<Frac, FracErr>
+        ensures { result ≡ literal_of (encode_utf8_all spelling.now) }
+    {
+        Frac::read_decimal(spelling.text().as_bytes())
     }
 }

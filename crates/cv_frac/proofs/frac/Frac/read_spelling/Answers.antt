@@ -1,0 +1,8 @@
+use Rattle.std.proofs.Common.{◌∙◌, ap, sym}
+use Rattle.std.specs.Prelude.{encode_utf8_all}
+use Rattle.std.proofs.lemmas.Str.{encodes-chars}
+use Rattle.cv_frac.specs.Literal.{literal_of}
+use Rattle.cv_frac.proofs.frac.Frac.read_spelling.Goals as goal
+
+pub returns : goal.returns
+returns c = c.read_decimal.ensures ∙ ap literal_of (c.as_bytes.ensures.value ∙ sym (encodes-chars c.text.result.now c.text.utf8) ∙ ap encode_utf8_all c.text.ensures)
