@@ -1,0 +1,6 @@
+pub mod Json
+pub mod Refusals
+pub mod Members
+pub mod PropertyNames
+pub mod Commands
+pub mod Reading
