@@ -1,4 +1,5 @@
 mod TableTest
-mod KeyOrder
+pub mod KeyOrder
 mod Outcomes
-mod Copies
+mod Entries
+mod Keeping

@@ -2,7 +2,7 @@
 use Rattle.std.proofs.Common.{◌≡◌, Bool, true, false, cond, List, [], ◌∷◌, Option, Some, None, refl, sym, ap, ◌∙◌, subst, unwrap_or, ◌≢◌}
 use Rattle.std.specs.Prelude.{All}
 use Rattle.std.specs.FinMap as map
-use Rattle.std.proofs.lemmas.List.Elements.{All-cons, All-head, All-tail}
+use Rattle.std.proofs.lemmas.List.Elements.{All-head, All-tail}
 use Rattle.indexmap.specs.IndexMap.{insert_entry}
 use Rattle.std.specs.Map.{lookup}
 use Rattle.cv_spec_text.specs.declared.token.Token.{Token}
@@ -74,16 +74,6 @@ valuation_of-insert_entry es key outcome =
     get-valuation_of (insert_entry same_key es key outcome) q
     ∙ first_tokens-insert_entry q key outcome es
     ∙ sym (get-with_outcome (valuation_of es) key outcome q ∙ ap (cond (same_key q key) (tokens_of outcome)) (get-valuation_of es q)))
-
--- what may be kept is kept once an entry is put
-pub All-insert_entry : (es : List Entry) (key : Key) (outcome : Outcome) → All IsKeptEntry es → MayKeep key outcome → All IsKeptEntry (insert_entry same_key es key outcome)
-All-insert_entry [] key outcome all new = All-cons IsKeptEntry (key, outcome) [] new all
-All-insert_entry (e ∷ es) key outcome all new = by (All-insert_entry es key outcome (All-tail IsKeptEntry e es all) new) (same_key key e.0) refl
-  where
-    by : All IsKeptEntry (insert_entry same_key es key outcome) → (b : Bool) → same_key key e.0 ≡ b → All IsKeptEntry (cond b ((e.0, outcome) ∷ es) (e ∷ insert_entry same_key es key outcome))
-    by rest true same =
-        All-cons IsKeptEntry (e.0, outcome) es (subst (λ k. MayKeep k outcome) (equal_keys key e.0 same) new) (All-tail IsKeptEntry e es all)
-    by rest false other = All-cons IsKeptEntry e _ (All-head IsKeptEntry e es all) rest
 
 -- the outcome of a key is that of its entry
 outcome_of-tokens_of : (outcome : Outcome) → outcome_of (tokens_of outcome) ≡ outcome

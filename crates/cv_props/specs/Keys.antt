@@ -1,5 +1,5 @@
 -- Keys: the names of custom properties, and the ordinary properties.
-use Rattle.std.specs.Prelude.{ℕ, Bool, List, [], ◌∷◌, Option, Some, option_map, if◌then◌else◌, encode_utf8_all}
+use Rattle.std.specs.Prelude.{ℕ, Bool, false, List, [], ◌∷◌, Option, Some, option_map, if◌then◌else◌, encode_utf8_all}
 use Rattle.std.specs.Ordering.{nat_cmp}
 use Rattle.std.specs.Cmp.Lexicographic.{slice_cmp}
 use Rattle.std.specs.Hash as fed
@@ -26,6 +26,10 @@ same_key a b = same_text (code_of a) (code_of b)
 abbrev pub key_input : Key → HashWrites
 key_input (Custom name) = fed.str (encode_utf8_all name)
 key_input (Table property) = fed.usize (number_of property)
+
+abbrev pub is_custom_key : Key → Bool
+is_custom_key (Custom name) = is_custom name
+is_custom_key (Table property) = false
 
 -- an order of the keys
 abbrev pub key_cmp : Key → Key → Ordering

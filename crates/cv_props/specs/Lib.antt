@@ -4,3 +4,6 @@ pub mod KeyLaws
 pub mod TableLaws
 pub mod Valuations
 pub mod ValuationLaws
+pub mod Winners
+pub mod Declaring
+pub mod Kept

@@ -3,7 +3,7 @@
 use Rattle.std.specs.Prelude.{ℕ, ◌≡◌, Bool, true, false, List, [], ◌∷◌, ◌++◌, codes, All, Option, Some, None}
 use Rattle.std.specs.FinMap as map
 use Rattle.cv_spec_text.specs.Characters.{space}
-use Rattle.cv_spec_text.specs.Keywords.{is_custom, is_css_wide_keyword}
+use Rattle.cv_spec_text.specs.Keywords.{is_css_wide_keyword}
 use Rattle.cv_spec_text.specs.Printing.{bytes}
 use Rattle.cv_spec_text.specs.Splits.{IsSpelt}
 use Rattle.cv_spec_text.specs.declared.token.Token.{Token}
@@ -11,10 +11,10 @@ use Rattle.cv_spec_text.specs.declared.token.Token.TheVariants.{Ident}
 use Rattle.cv_component.specs.TopLevel.{trim_front, trim_end}
 use Rattle.cv_var.specs.References.{has_var}
 use Rattle.cv_props.specs.declared.key.Key.{Key}
-use Rattle.cv_props.specs.declared.key.Key.TheVariants.{Custom, Table}
+use Rattle.cv_props.specs.declared.key.Key.TheVariants.{Custom}
 use Rattle.cv_props.specs.declared.outcome.Outcome.{Outcome}
 use Rattle.cv_props.specs.declared.outcome.Outcome.TheVariants.{Tokens, Invalid}
-use Rattle.cv_props.specs.Keys.{key_cmp}
+use Rattle.cv_props.specs.Keys.{is_custom_key, key_cmp}
 
 -- the tokens of the keys that aren't invalid
 abbrev pub Values : Type 0
@@ -41,10 +41,6 @@ with_outcome values key Invalid = map.remove values key
 abbrev pub valuation_of : List (Key × Outcome) → Values
 valuation_of [] = map.empty
 valuation_of ((key, outcome) ∷ entries) = with_outcome (valuation_of entries) key outcome
-
-abbrev pub is_custom_key : Key → Bool
-is_custom_key (Custom name) = is_custom name
-is_custom_key (Table property) = false
 
 -- the list is one CSS-wide keyword, but for whitespace at its ends (Values and Units 4, "CSS-wide keywords")
 abbrev pub is_keyword : List Token → Bool

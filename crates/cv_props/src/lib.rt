@@ -2,13 +2,17 @@
 #![tactic(auto)]
 
 mod computed;
+mod decls;
 mod key;
 mod laws;
+mod note;
 mod outcome;
 mod property;
 
 pub use computed::{Cause, Computed};
+pub use decls::{Decl, Decls};
 pub use key::{Key, key_text};
 pub use laws::{outcomes_are_by_key, properties_are_found};
+pub use note::{Note, NotePlace, Why};
 pub use outcome::{Outcome, Valuation, outcome_text};
 pub use property::Property;

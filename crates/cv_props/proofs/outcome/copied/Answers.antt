@@ -1,5 +1,5 @@
 use Rattle.std.proofs.Common.{◌∙◌, ap, sym, ◌++◌}
-use Rattle.cv_props.proofs.Copies.{next_entry}
+use Rattle.cv_props.proofs.Entries.{next_entry}
 use Rattle.cv_props.proofs.outcome.copied.Goals as goal
 
 pub loop-key-preserved : goal.loop-key-preserved

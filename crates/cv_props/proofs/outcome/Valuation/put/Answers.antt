@@ -1,7 +1,8 @@
 use Rattle.std.proofs.Common.{◌∙◌, ap, sym, subst}
 use Rattle.std.specs.Prelude.{All}
 use Rattle.cv_props.specs.Valuations.{IsKeptEntry, valuation_of, with_outcome}
-use Rattle.cv_props.proofs.Outcomes.{All-insert_entry, valuation_of-insert_entry}
+use Rattle.cv_props.proofs.Outcomes.{valuation_of-insert_entry}
+use Rattle.cv_props.proofs.Entries.{All-insert_entry}
 use Rattle.cv_props.proofs.outcome.Valuation.put.Goals as goal
 
 pub returns-clause-ok : goal.returns-clause-ok
@@ -12,6 +13,6 @@ returns-clause-ok c =
 
 pub invariant_of-self-2 : goal.invariant_of-self-2
 invariant_of-self-2 c = (
-  subst (All IsKeptEntry) (sym c.in_ok-insert.ensures.entries) (All-insert_entry c.self.inside.outcomes.entries c.args.key c.args.outcome c.self.invariant.0 c.requires),
+  subst (All IsKeptEntry) (sym c.in_ok-insert.ensures.entries) (All-insert_entry IsKeptEntry c.self.inside.outcomes.entries c.args.key c.args.outcome c.self.invariant.0 c.requires),
   c.self.invariant.1,
 )
