@@ -1,0 +1,7 @@
+//! Rows that cross crates, as tests. There is no code of its own here.
+#![tactic(auto)]
+
+#[cfg(test)]
+mod pairs;
+#[cfg(test)]
+mod texts;
