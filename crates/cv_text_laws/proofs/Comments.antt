@@ -1,10 +1,11 @@
 -- A comment ends at its first end.
-use Rattle.std.proofs.Common.{◌≡◌, ℕ, ◌+◌, ◌≤◌, List, [], ◌∷◌, ◌++◌, length, take, refl, sym, ◌∙◌, ap, arith}
+use Rattle.std.proofs.Common.{◌≡◌, ℕ, ◌+◌, ◌≤◌, List, [], ◌∷◌, ◌++◌, length, take, drop, refl, sym, ◌∙◌, ap, arith}
 use Rattle.std.specs.Prelude.{true, false, ◌==◌, ◌&&◌}
+use Rattle.std.proofs.Math.Seq.{drop-append_seam}
 use Rattle.cv_spec_text.specs.Characters.{asterisk, solidus, begins_with}
 use Rattle.cv_spec_text.specs.Strings.{comment_rest_length}
-use Rattle.cv_text_laws.specs.Fronts.{IsSequence}
-use Rattle.cv_text_laws.specs.FirstEnds.{IsCodePoint, ends_comment, CommentsEndFirst}
+use Rattle.cv_text_laws.specs.Fronts.{IsSequence, EndsFirst}
+use Rattle.cv_text_laws.specs.FirstEnds.{IsCodePoint, ends_comment, CommentsEndFirst, CommentsTakeClosing}
 use Rattle.cv_text_laws.proofs.Tests.{if_false, if_true, bool_cases, both, contrary}
 
 -- a comment that is read
@@ -67,16 +68,22 @@ read_comment (c ∷ cs) =
       size = if_false (c == asterisk && begins_with solidus cs) _ _ goes_on ∙ omega (arith, more.size);
     })
 
+first_end : (text : List ℕ) (comment : Comment text) → EndsFirst IsCodePoint ends_comment comment.front comment.rest
+first_end text comment = record {
+  sequence = comment.sequence;
+  ends = comment.ends;
+  first = λ other rest same sequence ended. comment.first other rest (same ∙ sym comment.whole) ended;
+}
+
 pub comments_end_first : CommentsEndFirst
-comments_end_first text =
-    let comment = read_comment text in (
-      comment.front,
-      comment.rest,
-      comment.whole,
-      record {
-        sequence = comment.sequence;
-        ends = comment.ends;
-        first = λ other rest same sequence ended. comment.first other rest (same ∙ sym comment.whole) ended;
-      },
-      comment.size,
-    )
+comments_end_first text = let comment = read_comment text in (comment.front, comment.rest, comment.whole, first_end text comment)
+
+pub comments_take_closing : CommentsTakeClosing
+comments_take_closing front rest ends =
+    let comment = read_comment (front ++ rest) in
+    let least = comment.first front rest refl ends.ends in
+    let most = ends.first comment.front comment.rest (sym comment.whole) comment.sequence comment.ends in
+    let size : length comment.front ≡ length front = omega (arith, least, most) in
+    let same : comment.rest ≡ rest =
+    sym (drop-append_seam comment.front comment.rest) ∙ ap (drop (length comment.front)) (sym comment.whole) ∙ ap (λ (n : ℕ). drop n (front ++ rest)) size ∙ drop-append_seam front rest in
+    comment.size ∙ omega (arith, size, ap (λ (l : List ℕ). length (take 2 l)) same)

@@ -11,7 +11,7 @@ use Rattle.cv_spec_text.specs.Characters.{line_feed, reverse_solidus, is_whitesp
 use Rattle.cv_spec_text.specs.Names.{begins_escape, hex_length, escape_length}
 use Rattle.cv_spec_text.proofs.Rows.{if_case, escape_length-positive}
 use Rattle.cv_text_laws.specs.Fronts.{IsLongest}
-use Rattle.cv_text_laws.specs.EscapeSpellings.{IsPlainEscape, IsOptionalWhitespace, IsHexEscape, IsEscape, EscapesAreLongest}
+use Rattle.cv_text_laws.specs.EscapeSpellings.{IsPlainEscape, IsOptionalWhitespace, IsHexEscape, IsEscape, EscapesAreLongest, NoEscapeIsMissed}
 use Rattle.cv_text_laws.proofs.Tests.{bool_cases, both, contrary}
 use Rattle.cv_text_laws.proofs.Digits.{prefix_len-all, prefix_len-none, prefix_len-some, take-run, begins-all}
 
@@ -172,7 +172,7 @@ escape_read (c ∷ d ∷ ds) begins =
     rw first (bool_cases (is_ascii_hexdigit d) (λ digit. hex_read (d ∷ ds) digit) (λ plain. plain_read d ds second plain))
 
 -- The longest escape.
-pub longest_escape : (text : List ℕ) → begins_escape text ≡ true → IsLongest IsEscape (take (escape_length text) text) (drop (escape_length text) text)
+pub longest_escape : EscapesAreLongest
 longest_escape text begins =
     let read = escape_read text begins in
     record {
@@ -199,10 +199,5 @@ tells_escape piece rest longest =
     let no_longer = longest.longest (take (escape_length text) text) (drop (escape_length text) text) (take-append-drop (escape_length text) text) read.is in
     record { begins = here.begins; size = omega (arith, here.least, no_longer, length-take-le (escape_length text) text read.within); some = here.some }
 
-pub escapes_are_longest : EscapesAreLongest
-escapes_are_longest = record {
-  longest = longest_escape;
-  none = λ text front rest fails whole is.
-      let begins : begins_escape text ≡ true = ap begins_escape whole ∙ (escape_in_front front rest is).begins in
-      contrary (begins_escape text) begins fails;
-}
+pub no_escape_is_missed : NoEscapeIsMissed
+no_escape_is_missed front rest fails is = contrary (begins_escape (front ++ rest)) (escape_in_front front rest is).begins fails

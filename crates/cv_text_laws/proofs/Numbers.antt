@@ -10,7 +10,7 @@ use Rattle.cv_spec_text.specs.Characters.{full_stop, is_sign, begins_by}
 use Rattle.cv_spec_text.specs.Numbers.{digits_length, sign_length, fraction_length, mantissa_length, exponent_length, number_length, begins_number, is_exponent_sign}
 use Rattle.cv_spec_text.proofs.Rows.{if_case}
 use Rattle.cv_spec_text.proofs.Within.{sign_length-le, mantissa_length-le, exponent_length-le}
-use Rattle.cv_text_laws.specs.NumberSpellings.{AreDigits, IsOptionalSign, IsPointed, IsExponent, IsNumberSpelling, NumbersAreLongest}
+use Rattle.cv_text_laws.specs.NumberSpellings.{AreDigits, IsOptionalSign, IsPointed, IsExponent, IsNumberSpelling, NumbersAreLongest, NoNumberIsMissed}
 use Rattle.cv_text_laws.proofs.Tests.{if_false, if_true, bool_cases, both}
 use Rattle.cv_text_laws.proofs.Digits.{prefix_len-all, prefix_len-none, prefix_len-some, one_more, take-prefix_len, begins-all}
 
@@ -234,16 +234,14 @@ within_text text =
     (λ _. omega (arith, sign_length-le text, mantissa_length-le (drop sign text), exponent_length-le (drop mantissa (drop sign text)), length-drop mantissa (drop sign text), length-drop sign text))
 
 pub numbers_are_longest : NumbersAreLongest
-numbers_are_longest = record {
-  longest = λ text begins. record {
-    is = number_read text (begins-positive text begins);
-    longest = λ other rest same spelt.
-        let whole : other ++ rest ≡ text = same ∙ take-append-drop (number_length text) text in
-        let within = (spelling_in_front other rest spelt).1 in
-        let read : number_length (other ++ rest) ≡ number_length text = ap number_length whole in
-        omega (arith, within, read, length-take-le (number_length text) text (within_text text));
-  };
-  none = λ text front rest none whole spelt.
-      let some = (spelling_in_front front rest spelt).0 in
-      absurd (omega (arith, some, ap number_length whole, none-zero text none));
+numbers_are_longest text begins = record {
+  is = number_read text (begins-positive text begins);
+  longest = λ other rest same spelt.
+      let whole : other ++ rest ≡ text = same ∙ take-append-drop (number_length text) text in
+      let within = (spelling_in_front other rest spelt).1 in
+      let read : number_length (other ++ rest) ≡ number_length text = ap number_length whole in
+      omega (arith, within, read, length-take-le (number_length text) text (within_text text));
 }
+
+pub no_number_is_missed : NoNumberIsMissed
+no_number_is_missed front rest none spelt = absurd (omega (arith, (spelling_in_front front rest spelt).0, none-zero (front ++ rest) none))

@@ -1,6 +1,6 @@
 -- A string ends at its first end.
 use Rattle.std.proofs.Common.{◌≡◌, ℕ, inl, inr, ◌+◌, ◌<◌, List, [], ◌∷◌, ◌++◌, length, take, drop, refl, ◌∙◌, ap, arith}
-use Rattle.std.specs.Prelude.{true, false, not, ◌==◌, ◌||◌, ◌⊎◌, if◌then◌else◌}
+use Rattle.std.specs.Prelude.{true, false, not, ◌==◌, ◌||◌, ◌⊎◌}
 use Rattle.std.proofs.lemmas.Bool.{eqb-true}
 use Rattle.std.proofs.lemmas.Bool.Decides.{nat_tests}
 use Rattle.cv_spec_text.specs.Characters.{line_feed, reverse_solidus, is_quote, begins_with}
@@ -8,7 +8,7 @@ use Rattle.cv_spec_text.specs.Names.{begins_escape, escape_length}
 use Rattle.cv_spec_text.specs.Strings.{string_piece_length, string_length}
 use Rattle.cv_spec_text.specs.Tokens.{Row, string_row}
 use Rattle.cv_spec_text.proofs.Rows.{if_case, escape_length-positive}
-use Rattle.cv_text_laws.specs.FirstEnds.{IsStringPart, ends_string, StringsEndFirst}
+use Rattle.cv_text_laws.specs.FirstEnds.{IsStringPart, ends_string, StringsEndFirst, StringsTakeQuotes}
 use Rattle.cv_text_laws.proofs.Tests.{if_false, if_true, bool_cases, both, not_true}
 use Rattle.cv_text_laws.proofs.Escapes.{longest_escape, escape-within, tells_escape}
 use Rattle.cv_text_laws.proofs.Sequences.{ReadsPieces, first_run}
@@ -108,19 +108,15 @@ module _ (quote : ℕ) (is : is_quote quote ≡ true) where
       (λ continued. absurd (omega (arith, continued.size, none)))
       (λ escape. absurd (omega (arith, string_piece-escape text escape, none, escape_length-positive text)))
 
-string_row-length : (quote : ℕ) (text : List ℕ)
-    → (string_row quote text).0 ≡ 1 + string_length quote text + (if begins_with quote (drop (string_length quote text) text) then 1 else 0)
+pub strings_end_first : StringsEndFirst
+strings_end_first quote text is =
+    first_run (string_piece_length quote) IsStringPart (ends_string quote) (reads_strings quote is) (tells_strings quote is) (stops_strings quote is) (string_piece-end quote) text
+
+pub strings_take_quotes : StringsTakeQuotes
 unfolding string_row
-string_row-length quote text =
+strings_take_quotes quote text =
     let size = string_length quote text in
     let after = drop size text in
     bool_cases (begins_with quote after)
     (λ closed. rw closed (omega arith))
     (λ other. rw other (if_case (λ (row : Row). row.0 ≡ 1 + size + 0) (begins_with line_feed after) (λ _. omega arith) (λ _. omega arith)))
-
-pub strings_end_first : StringsEndFirst
-strings_end_first = record {
-  first = λ quote text is. first_run (string_piece_length quote) IsStringPart (ends_string quote) (reads_strings quote is) (tells_strings quote is)
-      (stops_strings quote is) (string_piece-end quote) text;
-  row = string_row-length;
-}

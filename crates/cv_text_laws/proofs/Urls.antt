@@ -9,7 +9,7 @@ use Rattle.cv_spec_text.specs.Urls.{must_be_escaped_in_url, url_piece_length, ba
 use Rattle.cv_spec_text.specs.Tokens.{Row, url_body_row}
 use Rattle.cv_spec_text.proofs.Rows.{escape_length-positive}
 use Rattle.cv_spec_text.proofs.Runs.{run_length-more, run_length-end}
-use Rattle.cv_text_laws.specs.FirstEnds.{IsUrlPart, UrlsEndFirst}
+use Rattle.cv_text_laws.specs.FirstEnds.{IsUrlPart, UrlsEndFirst, UrlsTakeClosing}
 use Rattle.cv_text_laws.proofs.Tests.{if_false, if_true, bool_cases}
 use Rattle.cv_text_laws.proofs.Digits.{one_more}
 use Rattle.cv_text_laws.proofs.Escapes.{longest_escape, escape-within, tells_escape}
@@ -136,9 +136,9 @@ over_white (c ∷ cs) =
     rw (white, one_more (whitespace_length cs)) (omega (arith, stepped, over_white cs)))
     (λ other. rw other (omega arith))
 
-url_body_row-length : (text : List ℕ) → (url_body_row text).0 ≡ bad_url_length text + closing_length (drop (bad_url_length text) text)
+pub urls_take_closing : UrlsTakeClosing
 unfolding url_body_row bad_url_rest_length
-url_body_row-length text =
+urls_take_closing text =
     let size = url_length text in
     let after = drop size text in
     let end = whitespace_length after in
@@ -159,7 +159,4 @@ url_body_row-length text =
     (λ open'. ap (λ (row : Row). row.0) (if_false (is_closed close) _ _ open') ∙ omega (arith, good, close_is))
 
 pub urls_end_first : UrlsEndFirst
-urls_end_first = record {
-  first = λ text. first_run bad_url_piece_length IsUrlPart is_closed reads_urls tells_urls stops_urls bad_piece-end text;
-  row = url_body_row-length;
-}
+urls_end_first text = first_run bad_url_piece_length IsUrlPart is_closed reads_urls tells_urls stops_urls bad_piece-end text

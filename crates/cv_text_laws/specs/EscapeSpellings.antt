@@ -29,7 +29,10 @@ pub record IsHexEscape (text : List ℕ) : Type 0 where
 abbrev pub IsEscape : List ℕ → List ℕ → Type 0
 IsEscape text rest = IsPlainEscape text ⊎ (IsHexEscape text ⊎ ((text ≡ reverse_solidus ∷ []) × (rest ≡ [])))
 
--- An escape that is read is the longest escape that stands there, and where none is read none stands.
-pub record EscapesAreLongest : Type 0 where
-  pub longest : (text : List ℕ) → begins_escape text ≡ true → IsLongest IsEscape (take (escape_length text) text) (drop (escape_length text) text)
-  pub none : (text front rest : List ℕ) → begins_escape text ≡ false → text ≡ front ++ rest → IsEscape front rest → ⊥
+-- An escape that is read is the longest escape that stands there.
+abbrev pub EscapesAreLongest : Type 0
+EscapesAreLongest = (text : List ℕ) → begins_escape text ≡ true → IsLongest IsEscape (take (escape_length text) text) (drop (escape_length text) text)
+
+-- Where no escape is read, none stands.
+abbrev pub NoEscapeIsMissed : Type 0
+NoEscapeIsMissed = (front rest : List ℕ) → begins_escape (front ++ rest) ≡ false → IsEscape front rest → ⊥

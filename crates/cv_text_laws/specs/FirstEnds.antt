@@ -19,20 +19,28 @@ abbrev pub ends_string : ℕ → List ℕ → Bool
 ends_string quote [] = true
 ends_string quote (c ∷ cs) = c == quote || c == line_feed
 
--- A string that a quote begins ends at its first end behind that, and takes the quote that ends it.
-pub record StringsEndFirst : Type 0 where
-  pub first : (quote : ℕ) (text : List ℕ) → is_quote quote ≡ true
-      → EndsFirst IsStringPart (ends_string quote) (take (string_length quote text) text) (drop (string_length quote text) text)
-  pub row : (quote : ℕ) (text : List ℕ) → (string_row quote text).0 ≡ 1 + string_length quote text + (if begins_with quote (drop (string_length quote text) text) then 1 else 0)
+-- A string that a quote begins ends at its first end behind that.
+abbrev pub StringsEndFirst : Type 0
+StringsEndFirst =
+    (quote : ℕ) (text : List ℕ) → is_quote quote ≡ true
+    → EndsFirst IsStringPart (ends_string quote) (take (string_length quote text) text) (drop (string_length quote text) text)
+
+-- It takes both quotes and what stands between them; an LF that ends it is left.
+abbrev pub StringsTakeQuotes : Type 0
+StringsTakeQuotes =
+    (quote : ℕ) (text : List ℕ) → (string_row quote text).0 ≡ 1 + string_length quote text + (if begins_with quote (drop (string_length quote text) text) then 1 else 0)
 
 -- in a url: a code point that begins no escape, or an escape as long as one stands there
 abbrev pub IsUrlPart : List ℕ → List ℕ → Type 0
 IsUrlPart piece rest = ((c : ℕ) × (piece ≡ c ∷ []) × (begins_escape (c ∷ rest) ≡ false)) ⊎ IsLongest IsEscape piece rest
 
--- A url, bad or not, ends at the first `)` that isn't escaped or at the end of the text, and takes that `)`.
-pub record UrlsEndFirst : Type 0 where
-  pub first : (text : List ℕ) → EndsFirst IsUrlPart is_closed (take (bad_url_length text) text) (drop (bad_url_length text) text)
-  pub row : (text : List ℕ) → (url_body_row text).0 ≡ bad_url_length text + closing_length (drop (bad_url_length text) text)
+-- A url, bad or not, ends at the first `)` that isn't escaped or at the end of the text.
+abbrev pub UrlsEndFirst : Type 0
+UrlsEndFirst = (text : List ℕ) → EndsFirst IsUrlPart is_closed (take (bad_url_length text) text) (drop (bad_url_length text) text)
+
+-- It takes all before its end, and the `)`.
+abbrev pub UrlsTakeClosing : Type 0
+UrlsTakeClosing = (text : List ℕ) → (url_body_row text).0 ≡ bad_url_length text + closing_length (drop (bad_url_length text) text)
 
 -- in a comment: any code point
 abbrev pub IsCodePoint : List ℕ → List ℕ → Type 0
@@ -43,8 +51,10 @@ abbrev pub ends_comment : List ℕ → Bool
 ends_comment [] = true
 ends_comment (c ∷ cs) = c == asterisk && begins_with solidus cs
 
--- A comment ends at its first end behind `/*`, and takes the `*/` that ends it.
+-- Each text behind `/*` has a first end.
 abbrev pub CommentsEndFirst : Type 0
-CommentsEndFirst =
-    (text : List ℕ) → (front : List ℕ) × (rest : List ℕ) × (text ≡ front ++ rest) × EndsFirst IsCodePoint ends_comment front rest
-    × (comment_rest_length text ≡ length front + length (take 2 rest))
+CommentsEndFirst = (text : List ℕ) → (front : List ℕ) × (rest : List ℕ) × (text ≡ front ++ rest) × EndsFirst IsCodePoint ends_comment front rest
+
+-- A comment takes all before its first end, and the `*/`.
+abbrev pub CommentsTakeClosing : Type 0
+CommentsTakeClosing = (front rest : List ℕ) → EndsFirst IsCodePoint ends_comment front rest → comment_rest_length (front ++ rest) ≡ length front + length (take 2 rest)

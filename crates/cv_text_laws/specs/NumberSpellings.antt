@@ -42,8 +42,12 @@ pub record IsNumberSpelling (text : List ℕ) : Type 0 where
   pub number : AreDigits mantissa ⊎ IsPointed mantissa
   pub power : (exponent ≡ []) ⊎ IsExponent exponent
 
--- A number that is read is the longest spelling of a number that stands there, and where none is read none stands.
-pub record NumbersAreLongest : Type 0 where
-  pub longest : (text : List ℕ) → begins_number text ≡ true
-      → IsLongest (λ front rest. IsNumberSpelling front) (take (number_length text) text) (drop (number_length text) text)
-  pub none : (text front rest : List ℕ) → begins_number text ≡ false → text ≡ front ++ rest → IsNumberSpelling front → ⊥
+-- A number that is read is the longest spelling of a number that stands there.
+abbrev pub NumbersAreLongest : Type 0
+NumbersAreLongest =
+    (text : List ℕ) → begins_number text ≡ true
+    → IsLongest (λ front rest. IsNumberSpelling front) (take (number_length text) text) (drop (number_length text) text)
+
+-- Where no number is read, no spelling of one stands.
+abbrev pub NoNumberIsMissed : Type 0
+NoNumberIsMissed = (front rest : List ℕ) → begins_number (front ++ rest) ≡ false → IsNumberSpelling front → ⊥

@@ -1,16 +1,18 @@
 // What is read is the longest that stands there.
-ghost use Rattle.cv_text_laws.specs.EscapeSpellings.{EscapesAreLongest};
+ghost use Rattle.cv_text_laws.specs.EscapeSpellings.{EscapesAreLongest, NoEscapeIsMissed};
 ghost use Rattle.cv_text_laws.specs.NameSpellings.{NamesAreLongest, WhitespaceIsLongest};
-ghost use Rattle.cv_text_laws.specs.NumberSpellings.{NumbersAreLongest};
+ghost use Rattle.cv_text_laws.specs.NumberSpellings.{NoNumberIsMissed, NumbersAreLongest};
 
 /// A number that is read is the longest spelling of a number that stands there, and where none is read none stands.
 pub fn numbers_are_longest()
-    ensures { NumbersAreLongest }
+    ensures longest { NumbersAreLongest }
+    ensures none { NoNumberIsMissed }
 {}
 
 /// An escape that is read is the longest escape that stands there, and where none is read none stands.
 pub fn escapes_are_longest()
-    ensures { EscapesAreLongest }
+    ensures longest { EscapesAreLongest }
+    ensures none { NoEscapeIsMissed }
 {}
 
 /// A name sequence that is read is the longest that stands there, each escape in it as long as one stands there.

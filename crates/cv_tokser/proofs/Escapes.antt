@@ -1,16 +1,19 @@
 -- A written escape is read again, in a name, in a string and in a url.
 use Rattle.std.proofs.Common.{◌≡◌, ℕ, ◌+◌, ◌*◌, ◌/◌, ◌%◌, ◌<◌, List, [], ◌∷◌, ◌++◌, length, refl, ◌∙◌, ap, arith}
-use Rattle.std.specs.Prelude.{true, false, not, ◌==◌, ◌||◌, nat_lt}
+use Rattle.std.specs.Prelude.{true, false, not, ◌==◌, nat_lt}
 use Rattle.std.specs.Char.{is_ascii_hexdigit, digit_char, digit_value}
 use Rattle.std.proofs.lemmas.Bool.Decides.{nat_tests}
 use Rattle.std.proofs.lemmas.Str.{digit_value-digit_char}
-use Rattle.cv_spec_text.specs.Characters.{space, reverse_solidus, line_feed, quotation_mark, is_ident_code_point}
+use Rattle.cv_spec_text.specs.Characters.{space, reverse_solidus, line_feed, quotation_mark}
 use Rattle.cv_spec_text.specs.Names.{begins_escape, code_point_of, escape_length, escape_value, name_piece_length, name_piece_value}
 use Rattle.cv_spec_text.specs.Strings.{string_piece_length, string_piece_value}
 use Rattle.cv_spec_text.specs.Urls.{url_piece_length}
 use Rattle.cv_spec_text.specs.Printing.{hex_escape}
 use Rattle.cv_spec_text.proofs.Rows.{if_case}
-use Rattle.cv_text_laws.proofs.Tests.{both}
+use Rattle.cv_text_laws.proofs.Tests.{both, not_true}
+use Rattle.cv_text_laws.proofs.Names.{name_piece-escape}
+use Rattle.cv_text_laws.proofs.Strings.{string_piece-escape}
+use Rattle.cv_text_laws.proofs.Urls.{url_piece-escape}
 use Rattle.cv_tokser.proofs.Pieces.{IsPieceOf}
 
 -- a written escape: it is one in front of anything, and stands for the code point
@@ -93,44 +96,29 @@ plain_escape_is c plain other = record {
   value = λ rest. rw plain refl;
 }
 
--- an escape as a piece of a name
-as_name_piece : (text : List ℕ) → begins_escape text ≡ true → (name_piece_length text ≡ escape_length text) × (name_piece_value text ≡ escape_value text ∷ [])
-unfolding name_piece_length name_piece_value
-as_name_piece [] begins = cc
-as_name_piece (c ∷ cs) begins =
-    let first : (c == reverse_solidus) ≡ true = (both _ _ begins).0 in
-    let plain : is_ident_code_point c ≡ false = grind (arith, nat_tests) in
-    rw (plain, begins) (refl, refl)
+-- what an escape gives as a piece of a name or of a url, and as one of a string
+name_value-escape : (text : List ℕ) → begins_escape text ≡ true → name_piece_value text ≡ escape_value text ∷ []
+unfolding name_piece_value
+name_value-escape text begins = rw begins refl
 
--- an escape as a piece of a string
-as_string_piece : (c d : ℕ) (cs : List ℕ) → begins_escape (c ∷ d ∷ cs) ≡ true
-    → (string_piece_length quotation_mark (c ∷ d ∷ cs) ≡ escape_length (c ∷ d ∷ cs)) × (string_piece_value (c ∷ d ∷ cs) ≡ escape_value (c ∷ d ∷ cs) ∷ [])
-unfolding string_piece_length string_piece_value
-as_string_piece c d cs begins =
+string_value-escape : (c d : ℕ) (cs : List ℕ) → begins_escape (c ∷ d ∷ cs) ≡ true → string_piece_value (c ∷ d ∷ cs) ≡ escape_value (c ∷ d ∷ cs) ∷ []
+unfolding string_piece_value
+string_value-escape c d cs begins =
     let parts = both (c == reverse_solidus) (not (d == line_feed)) begins in
-    let first : (c == reverse_solidus) ≡ true = parts.0 in
-    let plain : (c == quotation_mark || c == line_feed) ≡ false = grind (arith, nat_tests) in
-    let second : (d == line_feed) ≡ false = grind (arith, nat_tests) in
-    rw (plain, first, second) (refl, refl)
-
--- an escape as a piece of a url
-as_url_piece : (text : List ℕ) → begins_escape text ≡ true → url_piece_length text ≡ escape_length text
-unfolding url_piece_length
-as_url_piece [] begins = cc
-as_url_piece (c ∷ cs) begins = rw begins refl
+    rw (parts.0, not_true (d == line_feed) parts.1) refl
 
 pub name_escape : (c : ℕ) (piece : List ℕ) → IsEscapeOf c piece → IsPieceOf name_piece_length name_piece_value c piece
 name_escape c piece is = record {
   some = omega (arith, is.some);
-  size = λ rest. (as_name_piece (piece ++ rest) (is.begins rest)).0 ∙ is.size rest;
-  value = λ rest. (as_name_piece (piece ++ rest) (is.begins rest)).1 ∙ ap (λ (v : ℕ). v ∷ []) (is.value rest);
+  size = λ rest. name_piece-escape (piece ++ rest) (is.begins rest) ∙ is.size rest;
+  value = λ rest. name_value-escape (piece ++ rest) (is.begins rest) ∙ ap (λ (v : ℕ). v ∷ []) (is.value rest);
 }
 
 pub url_escape : (c : ℕ) (piece : List ℕ) → IsEscapeOf c piece → IsPieceOf url_piece_length name_piece_value c piece
 url_escape c piece is = record {
   some = omega (arith, is.some);
-  size = λ rest. as_url_piece (piece ++ rest) (is.begins rest) ∙ is.size rest;
-  value = λ rest. (as_name_piece (piece ++ rest) (is.begins rest)).1 ∙ ap (λ (v : ℕ). v ∷ []) (is.value rest);
+  size = λ rest. url_piece-escape (piece ++ rest) (is.begins rest) ∙ is.size rest;
+  value = λ rest. name_value-escape (piece ++ rest) (is.begins rest) ∙ ap (λ (v : ℕ). v ∷ []) (is.value rest);
 }
 
 pub string_escape : (c : ℕ) (piece : List ℕ) → IsEscapeOf c piece → IsPieceOf (string_piece_length quotation_mark) string_piece_value c piece
@@ -138,6 +126,6 @@ string_escape c [] is = absurd (omega (arith, is.some))
 string_escape c (d ∷ []) is = absurd (omega (arith, is.some))
 string_escape c (d ∷ e ∷ piece) is = record {
   some = omega arith;
-  size = λ rest. (as_string_piece d e (piece ++ rest) (is.begins rest)).0 ∙ is.size rest;
-  value = λ rest. (as_string_piece d e (piece ++ rest) (is.begins rest)).1 ∙ ap (λ (v : ℕ). v ∷ []) (is.value rest);
+  size = λ rest. string_piece-escape quotation_mark refl (d ∷ e ∷ (piece ++ rest)) (is.begins rest) ∙ is.size rest;
+  value = λ rest. string_value-escape d e (piece ++ rest) (is.begins rest) ∙ ap (λ (v : ℕ). v ∷ []) (is.value rest);
 }

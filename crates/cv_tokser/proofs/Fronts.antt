@@ -9,7 +9,7 @@ use Rattle.cv_spec_text.specs.Numbers.{digits_length, sign_length, fraction_leng
 use Rattle.cv_spec_text.specs.Names.{name_piece_length, begins_name}
 use Rattle.cv_spec_text.specs.Joins.{is_ident_like, is_numeric, is_delim, is_cdc, is_open_round, begins_like_name_or_number}
 use Rattle.cv_spec_text.specs.Printing.{is_white}
-use Rattle.cv_text_laws.proofs.Tests.{bool_cases}
+use Rattle.cv_text_laws.proofs.Tests.{bool_cases, contrary}
 use Rattle.cv_text_laws.proofs.Digits.{prefix_len-none}
 use Rattle.cv_tokser.proofs.NameStarts.{may_start_name, name_start, name_or_number}
 use Rattle.cv_tokser.proofs.FirstRows.{may_start_number, number_start}
@@ -43,10 +43,6 @@ like_number_by_tests false false c d holds fails = cc
 
 like_number : (b : Token) → is_numeric b ≡ true → begins_like_name_or_number b ≡ false → ⊥
 like_number b holds fails = like_number_by_tests (is_ident_like b) (is_numeric b) _ _ holds fails
-
-pub contrary : {A : Type 0} (a : Bool) → a ≡ true → a ≡ false → A
-contrary true holds fails = cc
-contrary false holds fails = cc
 
 no_fraction : (c : ℕ) (cs : List ℕ) → (c == full_stop) ≡ false → fraction_length (c ∷ cs) ≡ 0
 unfolding fraction_length

@@ -11,11 +11,11 @@ use Rattle.cv_spec_text.specs.Tokens.{Row, first_row, row_length, row_tokens, to
 use Rattle.cv_spec_text.specs.Joins.{joins}
 use Rattle.cv_spec_text.specs.Printing.{printed, is_white, between, written}
 use Rattle.cv_spec_text.proofs.Runs.{run_values-more, run_values-nil}
-use Rattle.cv_text_laws.proofs.Tests.{bool_cases}
+use Rattle.cv_text_laws.proofs.Tests.{bool_cases, contrary}
 use Rattle.cv_text_laws.proofs.Digits.{one_more}
 use Rattle.cv_tokser.specs.Clean.{is_bad, begins_white, begins_string, is_url_function, IsClean}
 use Rattle.cv_tokser.proofs.WellFormed.{IsWellFormed, AreWellFormed}
-use Rattle.cv_tokser.proofs.Fronts.{contrary, harmless_front, end_front}
+use Rattle.cv_tokser.proofs.Fronts.{harmless_front, end_front}
 use Rattle.cv_tokser.proofs.Ends.{Ends, ends_by_front}
 use Rattle.cv_tokser.proofs.TokenFronts.{token_front}
 use Rattle.cv_tokser.proofs.TokensBack.{reads_back}

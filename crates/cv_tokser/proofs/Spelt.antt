@@ -22,7 +22,7 @@ use Rattle.cv_spec_text.proofs.Rows.{if_case}
 use Rattle.cv_spec_text.proofs.Splits.{tokens_are_split}
 use Rattle.cv_text_laws.specs.NumberSpellings.{IsNumberSpelling}
 use Rattle.cv_text_laws.proofs.Tests.{bool_cases, both}
-use Rattle.cv_text_laws.proofs.Numbers.{number_read, spelling_in_front, within_text, numbers_are_longest}
+use Rattle.cv_text_laws.proofs.Numbers.{number_read, spelling_in_front, within_text, no_number_is_missed}
 use Rattle.cv_tokser.proofs.IdentsBack.{is_no_identifier}
 use Rattle.cv_tokser.proofs.WellFormed.{is_kept, AreAll, AreAll-drop, AreAll-take, IsName, IsSpelling, IsWellFormed, AreWellFormed}
 use Rattle.cv_tokser.proofs.Nameable.{name-nameable, url-nameable, string-nameable, name-some, piece-name-some, unnamed}
@@ -126,7 +126,7 @@ digit_spelling c digit = record {
 no_digit_first : (c : ℕ) (cs : List ℕ) → begins_number (c ∷ cs) ≡ false → is_ascii_digit c ≡ false
 no_digit_first c cs none =
     bool_cases (is_ascii_digit c)
-    (λ digit. absurd (numbers_are_longest.none (c ∷ cs) (c ∷ []) cs none refl (digit_spelling c digit)))
+    (λ digit. absurd (no_number_is_missed (c ∷ []) cs none (digit_spelling c digit)))
     (λ other. other)
 
 no_start_first : (c : ℕ) (cs : List ℕ) → begins_name (c ∷ cs) ≡ false → is_ident_start c ≡ false

@@ -13,14 +13,14 @@ use Rattle.cv_spec_text.specs.Names.{begins_name}
 use Rattle.cv_spec_text.specs.Tokens.{single}
 use Rattle.cv_spec_text.specs.Joins.{is_ident_like, is_numeric, begins_like_name_or_number}
 use Rattle.cv_spec_text.specs.Printing.{identifier, name_rest, unit, printed}
-use Rattle.cv_text_laws.proofs.Tests.{if_false, if_true, bool_cases}
+use Rattle.cv_text_laws.proofs.Tests.{if_false, if_true, bool_cases, contrary}
 use Rattle.cv_text_laws.specs.NumberSpellings.{IsNumberSpelling}
 use Rattle.cv_text_laws.proofs.Numbers.{number_read, spelling_in_front}
 use Rattle.cv_tokser.specs.Clean.{is_bad}
 use Rattle.cv_tokser.proofs.NameStarts.{identifier_begins}
 use Rattle.cv_tokser.proofs.NumbersBack.{IsNumber}
 use Rattle.cv_tokser.proofs.WellFormed.{IsDelimiter, IsWellFormed}
-use Rattle.cv_tokser.proofs.Fronts.{Front, Symbol, contrary, name_front, number_front, symbol_front, harmless_front}
+use Rattle.cv_tokser.proofs.Fronts.{Front, Symbol, name_front, number_front, symbol_front, harmless_front}
 use Rattle.cv_tokser.proofs.Ends.{EndsDelim, Ends}
 
 -- a number stands in front, whatever follows it
