@@ -5,3 +5,4 @@ pub mod Finding
 pub mod PartSteps
 pub mod Lending
 pub mod Naming
+pub mod SegmentSteps

@@ -8,6 +8,7 @@ ghost use Rattle.cv_var.specs.Flat.{flat, flattened, IsSpeltPiece};
 ghost use Rattle.cv_spec_element.specs.Pieces.{RefersTo};
 ghost use Rattle.cv_var.specs.Names.{names_of, firsts};
 ghost use Rattle.cv_var.specs.References.{pieces_of, has_var};
+ghost use Rattle.cv_var.specs.Segments.{segments_of};
 ghost use Rattle.cv_var.specs.declared.refusal.VarErr.{VarErr};
 
 use crate::flat::{Part, lent};
@@ -16,6 +17,7 @@ use crate::parts::parts_of;
 use crate::place::Place;
 use crate::reference::is_var;
 use crate::refusal::{VarErr, check_tokens};
+use crate::segment::{Segment, segments_of};
 use cv_spec_text::{Name, OutOfMemory, Run, Token};
 use sqlite_items::at;
 use std::alloc::Global;
@@ -117,6 +119,13 @@ impl Declared {
         ensures distinct { IfOk result (λ names. IsDistinct bytes_eq names.items) }
     {
         references(*self.parts.allocator(), self)
+    }
+
+    /// The list as texts and references. No text is empty, and a fallback that is there has its own segments, be they none.
+    pub fn segments(&self) -> Result<Vec<Segment>, OutOfMemory>
+        ensures { IfOk result (λ segments. segments.items ≡ segments_of (pieces_of self.now)) }
+    {
+        segments_of(*self.parts.allocator(), self.list.tokens())
     }
 
     /// An equal list.
