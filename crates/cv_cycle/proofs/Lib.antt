@@ -1,0 +1,10 @@
+pub mod Marking
+pub mod Reached
+pub mod Places
+pub mod Components
+pub mod Readings
+pub mod Top
+pub mod Following
+pub mod Leaving
+pub mod Beginning
+pub mod Advancing
