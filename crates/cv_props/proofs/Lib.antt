@@ -3,3 +3,5 @@ pub mod KeyOrder
 mod Outcomes
 mod Entries
 mod Keeping
+mod Items
+mod Split

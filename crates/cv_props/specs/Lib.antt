@@ -7,3 +7,4 @@ pub mod ValuationLaws
 pub mod Winners
 pub mod Declaring
 pub mod Kept
+pub mod Reading

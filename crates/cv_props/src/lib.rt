@@ -8,6 +8,7 @@ mod laws;
 mod note;
 mod outcome;
 mod property;
+mod style;
 
 pub use computed::{Cause, Computed};
 pub use decls::{Decl, Decls};
