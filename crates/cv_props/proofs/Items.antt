@@ -16,6 +16,7 @@ use Rattle.cv_props.specs.Kept.{declared_by_item, kept, kept_declarations, note_
 use Rattle.cv_props.specs.Reading.{with_item}
 use Rattle.cv_props.specs.Winners.{winners}
 use Rattle.cv_props.specs.Declaring.{with_declaration}
+use Rattle.cv_props.proofs.Numbered.{enumerate_from-push}
 use Rattle.cv_props.proofs.Keeping.{winners-push}
 
 -- a name that isn't of an ordinary property is custom where it has a key
@@ -38,12 +39,6 @@ winners-item ps p =
         ≡ (elim declared [ Ok d ↦ with_declaration (winners (kept_declarations ps)) d.0 d.1 | Err why ↦ winners (kept_declarations ps) ])
     by (Ok (key, declaration)) = winners-push (kept_declarations ps) key declaration
     by (Err why) = ap winners (append-nil (kept_declarations ps))
-
-enumerate_from-push : (n : ℕ) (ps : List Piece) (p : Piece) → enumerate_from n (ps ++ p ∷ []) ≡ enumerate_from n ps ++ (n + length ps, p) ∷ []
-enumerate_from-push n [] p = let same : n ≡ n + 0 = omega arith in ap (λ k. (k, p) ∷ []) same
-enumerate_from-push n (q ∷ ps) p =
-    ap (λ l. (n, q) ∷ l) (enumerate_from-push (n + 1) ps p
-    ∙ (let same : (n + 1) + length ps ≡ n + length (q ∷ ps) = omega arith in ap (λ k. enumerate_from (n + 1) ps ++ (k, p) ∷ []) same))
 
 -- the notes once an item is read
 pub notes_on-item : (element : ℕ) (ps : List Piece) (p : Piece) → notes_on element (ps ++ p ∷ []) ≡ notes_on element ps ++ note_on (Item element (length ps)) p

@@ -18,6 +18,7 @@ use Rattle.cv_spec_text.specs.declared.token.Token.TheVariants.{Ident, Delim, Wh
 use Rattle.cv_component.specs.Nesting.{completed, nesting_past}
 use Rattle.cv_component.specs.TopLevel.{trim_front, trim_end}
 use Rattle.cv_component.specs.Items.{is_important, before_mark, before_importance, unimportant, declared_value, declaration_by, declaration, item, item_length, item_size, item_at, begins_item, items}
+use Rattle.cv_component.specs.Rules.{rule, rule_length, rule_size, rule_at, begins_rule, rules}
 use Rattle.cv_props.specs.Reading.{IsSpeltItem}
 
 module _ {A B : Type 0} (size : List A → ℕ) (value : List A → List B) where
@@ -146,3 +147,14 @@ spelt_item_at l holds = by (begins_item l)
 -- the values of the items of a list of tokens that are spelt
 pub spelt_items : (tokens : List Token) → All IsSpelt tokens → All IsSpeltItem (items tokens)
 spelt_items tokens holds = run_values-All item_size item_at IsSpelt IsSpeltItem spelt_item_at tokens holds
+
+one_rule : (l : List Token) → length (rule_at l) ≤ 1
+one_rule l = by (begins_rule l)
+  where
+    by : (b : Bool) → length (if b then rule (take (rule_length l) l) ∷ [] else []) ≤ 1
+    by true = omega arith
+    by false = omega arith
+
+-- no more rules than tokens
+pub few_rules : (tokens : List Token) → length (rules tokens) ≤ length tokens
+few_rules tokens = run_values-few rule_size rule_at one_rule tokens

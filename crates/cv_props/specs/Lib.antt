@@ -8,3 +8,4 @@ pub mod Winners
 pub mod Declaring
 pub mod Kept
 pub mod Reading
+pub mod Sheets
