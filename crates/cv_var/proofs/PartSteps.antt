@@ -46,7 +46,7 @@ module _ (tokens : List CssToken) (at end : ℕ) (some : at < end) (fits : end �
       ap (λ ps. map Some (flattened ps)) (first begins.token (stretch tokens (at + 1) end) (stretch tokens at end) begins.is None none)
       ∙ ap (λ o. option_map flat_token o ∷ spelled (stretch tokens (at + 1) end)) (sym begins.at)
 
-  behind : drop (function_size (stretch tokens at end)) (stretch tokens at end) ≡ stretch tokens (at + function_size (stretch tokens at end)) end
+  pub behind : drop (function_size (stretch tokens at end)) (stretch tokens at end) ≡ stretch tokens (at + function_size (stretch tokens at end)) end
   behind = drop_of_stretch tokens at end (function_size (stretch tokens at end))
 
   pub parts-bare : (name : List ℕ) (place : ℕ) → name_at tokens place ≡ Some name → reference_at (stretch tokens at end) ≡ Some (name, None) → spelled (stretch tokens at end) ≡ map (flat_at tokens) (Reference place None ∷ []) ++ spelled (stretch tokens (at + function_size (stretch tokens at end)) end)
@@ -69,7 +69,7 @@ module _ (tokens : List CssToken) (at end : ℕ) (some : at < end) (fits : end �
       ∙ ap (λ ts. map (flat_at tokens) (Reference place (Some (length inner)) ∷ inner) ++ spelled ts) behind
 
   module _ (found : Found) (stands : StandsAt (stretch tokens at end) found (reference_at (stretch tokens at end))) where
-    abbrev placed : StandsAt tokens (record { name = found.name + at; fallback = moved at found.fallback }) (reference_at (stretch tokens at end))
+    abbrev pub placed : StandsAt tokens (record { name = found.name + at; fallback = moved at found.fallback }) (reference_at (stretch tokens at end))
     placed = StandsAt-moved tokens at end found (record { name = found.name + at; fallback = moved at found.fallback }) (reference_at (stretch tokens at end)) (omega arith) refl refl stands
 
     pub name-fits : found.name + at < length tokens

@@ -1,18 +1,24 @@
 // A checked list.
-ghost use Rattle.std.specs.Prelude.{◌≡◌, ◌⊎◌, ◌↔◌, ◌<◌, All, IfOk, IfErr, OnOk, IfSome, IsErrOf, Err, length, option_map, slice_get};
+ghost use Rattle.std.specs.Prelude.{◌≡◌, ◌⊎◌, ◌↔◌, ◌<◌, ℕ, List, All, Contains, bytes_eq, IfOk, IfErr, OnOk, IfSome, IsErrOf, Err, length, option_map, slice_get};
+ghost use Rattle.std.specs.List.{IsDistinct};
 ghost use Rattle.cv_component.specs.Nesting.{depth};
 ghost use Rattle.cv_spec_text.specs.Splits.{IsSpelt};
 ghost use Rattle.cv_var.specs.Checked.{IsChecked, IsCause};
 ghost use Rattle.cv_var.specs.Flat.{flat, flattened, IsSpeltPiece};
+ghost use Rattle.cv_spec_element.specs.Pieces.{RefersTo};
+ghost use Rattle.cv_var.specs.Names.{names_of, firsts};
 ghost use Rattle.cv_var.specs.References.{pieces_of, has_var};
+ghost use Rattle.cv_var.specs.Segments.{segments_of};
 ghost use Rattle.cv_var.specs.declared.refusal.VarErr.{VarErr};
 
 use crate::flat::{Part, lent};
+use crate::names::references;
 use crate::parts::parts_of;
 use crate::place::Place;
 use crate::reference::is_var;
 use crate::refusal::{VarErr, check_tokens};
-use cv_spec_text::{OutOfMemory, Run, Token};
+use crate::segment::{Segment, segments_of};
+use cv_spec_text::{Name, OutOfMemory, Run, Token};
 use sqlite_items::at;
 use std::alloc::Global;
 use std::marker::Model;
@@ -104,6 +110,22 @@ impl Declared {
             Some(place) => lent(self.list.tokens(), *place),
             None => None,
         }
+    }
+
+    /// The names of the references, those in fallbacks too, each once, in order of first place.
+    pub fn references(&self) -> Result<Vec<Name>, OutOfMemory>
+        ensures names { IfOk result (λ names. names.items ≡ firsts (names_of (pieces_of self.now))) }
+        ensures refers { IfOk result (λ names. (name : List ℕ) → Contains names.items name ↔ RefersTo (pieces_of self.now) name) }
+        ensures distinct { IfOk result (λ names. IsDistinct bytes_eq names.items) }
+    {
+        references(*self.parts.allocator(), self)
+    }
+
+    /// The list as texts and references. No text is empty, and a fallback that is there has its own segments, be they none.
+    pub fn segments(&self) -> Result<Vec<Segment>, OutOfMemory>
+        ensures { IfOk result (λ segments. segments.items ≡ segments_of (pieces_of self.now)) }
+    {
+        segments_of(*self.parts.allocator(), self.list.tokens())
     }
 
     /// An equal list.

@@ -3,6 +3,7 @@
 
 mod declared;
 mod flat;
+mod names;
 mod parts;
 mod place;
 mod reference;
