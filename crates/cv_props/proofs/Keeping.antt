@@ -242,6 +242,7 @@ module _ (f : Key → Option Decl) (key : Key) where
         where
           same : f key ≡ None
           same = ap f (equal_keys key k is) ∙ at
+
           none : (b : Bool) → (if b then f key else None) ≡ f key
           none true = refl
           none false = sym same
@@ -272,8 +273,10 @@ module _ (f : Key → Option Decl) (key : Key) where
         where
           same : key ≡ k
           same = equal_keys key k is
+
           rest : declared_keys h ks ≡ declared_keys f ks
           rest = same_keys f h ks key alike (subst (λ q. stands q ks ≡ false) (sym same) apart.0)
+
           here : (o : Option Decl) → f k ≡ o → declared_keys h (k ∷ ks) ≡ insert_entry same_key (cons_option (option_map (λ d. (k, d)) o) (declared_keys f ks)) key d
           here None at = absurd (true≢false (sym there ∙ ap is_some (ap f same ∙ at)))
           here (Some w) at =
@@ -299,10 +302,13 @@ winners-push es key d =
   where
     keys : List Key
     keys = keys_kept es
+
     f : Key → Option Decl
     f = winner es
+
     h : Key → Option Decl
     h = winner (es ++ (key, d) ∷ [])
+
     by : (t : Bool) → stands key (keys_kept es) ≡ t
         → declared_keys (winner (es ++ (key, d) ∷ [])) (if t then keys_kept es else keys_kept es ++ key ∷ [])
         ≡ (if not d.important && is_important (if t then winner es key else None) then declared_keys (winner es) (keys_kept es) else insert_entry same_key (declared_keys (winner es) (keys_kept es)) key d)
@@ -331,6 +337,7 @@ winners-push es key d =
             cases true = refl
             cases false = refl
         new (Some x) none same = cc
+
         no_important : (b : Bool) → insert_entry same_key (declared_keys (winner es) (keys_kept es)) key d ≡ (if not b && false then declared_keys (winner es) (keys_kept es) else insert_entry same_key (declared_keys (winner es) (keys_kept es)) key d)
         no_important true = refl
         no_important false = refl

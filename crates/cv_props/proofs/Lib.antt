@@ -3,3 +3,6 @@ pub mod KeyOrder
 mod Outcomes
 mod Entries
 mod Keeping
+mod Numbered
+mod Items
+mod Split

@@ -11,6 +11,7 @@ use Rattle.cv_var.specs.References.{bad_var}
 use Rattle.cv_props.specs.declared.decls.Decl.{Decl}
 use Rattle.cv_props.specs.declared.key.Key.{Key}
 use Rattle.cv_props.specs.declared.note.Note.{Note}
+use Rattle.cv_props.specs.declared.note.NotePlace.{NotePlace}
 use Rattle.cv_props.specs.declared.note.NotePlace.TheVariants.{Item}
 use Rattle.cv_props.specs.declared.note.Why.{Why}
 use Rattle.cv_props.specs.declared.note.Why.TheVariants.{AtRule, NotDeclaration, UnknownProperty, TooDeep, BadValue, BadVar}
@@ -45,13 +46,13 @@ abbrev pub kept_declarations : List Piece → List (Key × Decl)
 kept_declarations pieces = flat_map kept pieces
 
 -- the note on an item that is ignored
-abbrev pub note_on : ℕ → ℕ × Piece → List Note
-note_on element (number, piece) =
-    (elim (declared_by_item piece) [ Ok declaration ↦ [] | Err why ↦ record { place = Item element number; why = why } ∷ [] ])
+abbrev pub note_on : NotePlace → Piece → List Note
+note_on place piece =
+    (elim (declared_by_item piece) [ Ok declaration ↦ [] | Err why ↦ record { place = place; why = why } ∷ [] ])
 
--- the notes on the items of an element's style, in order; ignored ones are counted too
+-- the notes on the items of an element's style, in order; items are numbered from 0, ignored ones too
 abbrev pub notes_on : ℕ → List Piece → List Note
-notes_on element pieces = flat_map (note_on element) (enumerate_from 0 pieces)
+notes_on element pieces = flat_map (λ (number, piece). note_on (Item element number) piece) (enumerate_from 0 pieces)
 
 -- the item declares an ordinary property
 abbrev pub declares_ordinary : Piece → Bool

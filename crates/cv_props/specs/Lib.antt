@@ -7,3 +7,5 @@ pub mod ValuationLaws
 pub mod Winners
 pub mod Declaring
 pub mod Kept
+pub mod Reading
+pub mod Sheets

@@ -8,6 +8,8 @@ mod laws;
 mod note;
 mod outcome;
 mod property;
+mod registry;
+mod style;
 
 pub use computed::{Cause, Computed};
 pub use decls::{Decl, Decls};
@@ -16,3 +18,4 @@ pub use laws::{outcomes_are_by_key, properties_are_found};
 pub use note::{Note, NotePlace, Why};
 pub use outcome::{Outcome, Valuation, outcome_text};
 pub use property::Property;
+pub use registry::Registry;

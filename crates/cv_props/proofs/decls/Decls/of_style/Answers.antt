@@ -1,0 +1,14 @@
+use Rattle.std.proofs.Common.{ap, sym, ◌∙◌, subst, length, arith}
+use Rattle.std.specs.Prelude.{All}
+use Rattle.cv_props.specs.Reading.{IsSpeltItem}
+use Rattle.cv_props.proofs.Split.{few_items, spelt_items}
+use Rattle.cv_props.proofs.decls.Decls.of_style.Goals as goal
+
+pub of_items-requires-clause-spelt : goal.of_items-requires-clause-spelt
+of_items-requires-clause-spelt c =
+    subst (All IsSpeltItem) (sym (c.deref.ensures.value ∙ c.in_ok-pieces.ensures)) (spelt_items c.args.tokens.now c.requires.spelt)
+
+pub of_items-requires-clause-few : goal.of_items-requires-clause-few
+of_items-requires-clause-few c =
+    let same = ap length (c.deref.ensures.value ∙ c.in_ok-pieces.ensures) in
+    omega (arith, same, few_items c.args.tokens.now, c.requires.few)
