@@ -3,6 +3,8 @@
 
 mod cycles;
 mod stacks;
+#[cfg(test)]
+mod tests;
 mod walk;
 
 pub use cycles::cyclic;
