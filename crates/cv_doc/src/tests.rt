@@ -1,4 +1,6 @@
-use crate::{BadDoc, Command, DocErr, Document};
+ghost use Rattle.std.specs.Prelude.{⊤};
+
+use crate::{BadDoc, Command, DocErr, Document, Step, walk};
 use std::alloc::{AllocError, Global};
 use std::test::Fail;
 
@@ -177,9 +179,57 @@ fn reads_a_document(rt: HostRuntime) -> Result<(), Fail> {
     assert_eq!(rt; document.elements[1].parent, Some(0));
     assert_eq!(rt; document.elements[1].style.text(), "--a: 1");
     let show = document.show.ok_or("names")?;
+    assert_eq!(rt; show.len(), 2);
     assert_eq!(rt; show[0].text(), "Width");
     assert_eq!(rt; document.commands.len(), 2);
     assert!(rt; matches!(&document.commands[0], Command::Set { element: 1, .. }));
     assert!(rt; matches!(&document.commands[1], Command::Unwatch { watcher: 0 }));
+    Ok(())
+}
+
+// Adds up the indices of the elements that were stepped, and stops after the sum.
+#[derive(Drop)]
+struct Sum {
+    of_indices: u64,
+    most: u64,
+}
+
+impl Step for Sum {
+    type Stop = u32;
+
+    ghost ready = { λ _ _ _. ⊤ };
+
+    ghost gives = { λ _ _ _ _ _. ⊤ };
+
+    fn step(&mut self, index: u32, _parent: Option<u32>) -> Result<(), u32> {
+        self.of_indices = self.of_indices.saturating_add(index as u64);
+        if self.of_indices > self.most {
+            Err(index)
+        } else {
+            Ok(())
+        }
+    }
+}
+
+static FIVE: &str =
+    r#"{"elements":[{"parent":null},{"parent":0},{"parent":0},{"parent":1},{"parent":1}]}"#;
+
+#[test]
+fn walks_to_the_first_stop(rt: HostRuntime) -> Result<(), Fail> {
+    let document = Document::of_bytes(rt.alloc(), FIVE.as_bytes())
+        .ok()
+        .ok_or("a document")?;
+    let mut all = Sum {
+        of_indices: 0,
+        most: 10,
+    };
+    assert_eq!(rt; walk(&document.elements, &mut all), Ok(()));
+    assert_eq!(rt; all.of_indices, 10);
+    let mut some = Sum {
+        of_indices: 0,
+        most: 5,
+    };
+    assert_eq!(rt; walk(&document.elements, &mut some), Err(3));
+    assert_eq!(rt; some.of_indices, 6);
     Ok(())
 }
