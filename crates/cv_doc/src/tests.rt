@@ -1,4 +1,6 @@
-ghost use Rattle.std.specs.Prelude.{⊤};
+ghost use Rattle.std.specs.Prelude.{IfOk, ⊤};
+ghost use Rattle.cv_doc.specs.Kept.{IsSound};
+ghost use Rattle.cv_doc.specs.Reading.{shape_of};
 
 use crate::{BadDoc, Command, DocErr, Document, Step, walk};
 use std::alloc::{AllocError, Global};
@@ -163,15 +165,22 @@ fn counts_before_it_looks(rt: HostRuntime) -> Result<(), Fail> {
     Ok(())
 }
 
+fn read(alloc: Global, text: &str) -> Result<Document, &'static str>
+    ensures { IfOk result (λ document. IsSound (shape_of document)) }
+{
+    match Document::of_bytes(alloc, text.as_bytes()) {
+        Ok(document) => Ok(document),
+        Err(_) => Err("a document"),
+    }
+}
+
 static WHOLE: &str = r#"{"more":1,"viewport":{"width":1000,"height":800,"depth":1},"sheet":"a {}",
     "elements":[{"parent":null},{"style":"--a: 1","parent":0}],"show":["Width","--a"],
     "commands":[{"do":"set","element":1,"name":"--a","value":"2px","more":[]},{"do":"unwatch","watcher":0}]}"#;
 
 #[test]
 fn reads_a_document(rt: HostRuntime) -> Result<(), Fail> {
-    let document = Document::of_bytes(rt.alloc(), WHOLE.as_bytes())
-        .ok()
-        .ok_or("a document")?;
+    let document = read(rt.alloc(), WHOLE)?;
     assert_eq!(rt; (document.width, document.height), (1000, 800));
     assert_eq!(rt; document.sheet.text(), "a {}");
     assert_eq!(rt; document.elements.len(), 2);
@@ -216,9 +225,7 @@ static FIVE: &str =
 
 #[test]
 fn walks_to_the_first_stop(rt: HostRuntime) -> Result<(), Fail> {
-    let document = Document::of_bytes(rt.alloc(), FIVE.as_bytes())
-        .ok()
-        .ok_or("a document")?;
+    let document = read(rt.alloc(), FIVE)?;
     let mut all = Sum {
         of_indices: 0,
         most: 10,
