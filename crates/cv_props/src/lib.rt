@@ -18,4 +18,8 @@ pub use laws::{outcomes_are_by_key, properties_are_found};
 pub use note::{Note, NotePlace, Why};
 pub use outcome::{Outcome, Valuation, outcome_text};
 pub use property::Property;
-pub use registry::Registry;
+pub use registry::{Registry, registers};
+pub use style::declares_ordinary;
+
+#[cfg(test)]
+mod tests;

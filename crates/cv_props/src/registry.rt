@@ -2,7 +2,7 @@
 ghost use Rattle.std.specs.Prelude.{◌≡◌, ◌<◌, [], length, All, IfOk};
 ghost use Rattle.cv_spec_text.specs.Splits.{IsSpelt};
 ghost use Rattle.cv_component.specs.Rules.{rules};
-ghost use Rattle.cv_props.specs.Sheets.{RegisterNothing, notes_on_rules};
+ghost use Rattle.cv_props.specs.Sheets.{RegisterNothing, notes_on_rules, register, registers};
 
 use crate::note::{Note, NotePlace, Why};
 use cv_component::{Rule, rules};
@@ -53,6 +53,23 @@ impl Registry {
         Ok(Registry {
             names: copied(alloc, self.names.as_slice())?,
         })
+    }
+}
+
+/// Whether a rule of the sheet is an `@property` rule, which `Registry::of_sheet` can't take yet.
+pub fn registers(alloc: Global, tokens: &[Token]) -> Result<bool, AllocError>
+    ensures { IfOk result (λ found. found ≡ register (rules tokens.now)) }
+{
+    let all = rules(alloc, tokens)?;
+    Ok(all.iter().any(is_registration))
+}
+
+fn is_registration(rule: &Rule) -> bool
+    ensures { result ≡ registers rule.now }
+{
+    match rule {
+        Rule::At { name, .. } => name.is_word("property"),
+        Rule::Other => false,
     }
 }
 
