@@ -4,7 +4,7 @@ ghost use Rattle.std.specs.List.{IsDistinct};
 ghost use Rattle.cv_component.specs.Nesting.{depth};
 ghost use Rattle.cv_spec_text.specs.Splits.{IsSpelt};
 ghost use Rattle.cv_var.specs.Checked.{IsChecked, IsCause};
-ghost use Rattle.cv_var.specs.Flat.{flat, flattened, IsSpeltPiece};
+ghost use Rattle.cv_var.specs.Flat.{flat, flattened, EndsWithin, IsSpeltPiece};
 ghost use Rattle.cv_spec_element.specs.Pieces.{RefersTo};
 ghost use Rattle.cv_var.specs.Names.{names_of, firsts};
 ghost use Rattle.cv_var.specs.References.{pieces_of, has_var};
@@ -104,6 +104,7 @@ impl Declared {
     /// The part of this number. Behind a reference come the parts of its fallback.
     pub fn part(&self, number: usize) -> Option<Part<'_>>
         ensures part { option_map flat result ≡ slice_get (flattened (pieces_of self.now)) number }
+        ensures within { IfSome result (λ part. EndsWithin (length (flattened (pieces_of self.now))) number (flat part)) }
         ensures spelt { IfSome result (λ part. IsSpeltPiece (flat part)) }
     {
         match at(&self.parts, number) {
