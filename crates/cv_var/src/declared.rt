@@ -1,5 +1,5 @@
 // A checked list.
-ghost use Rattle.std.specs.Prelude.{◌≡◌, ◌⊎◌, ◌↔◌, ◌<◌, ℕ, List, All, Contains, bytes_eq, IfOk, IfErr, OnOk, IfSome, IsErrOf, Err, length, option_map, slice_get};
+ghost use Rattle.std.specs.Prelude.{◌≡◌, ◌⊎◌, ◌↔◌, ◌<◌, ◌^◌, ℕ, List, All, Contains, bytes_eq, IfOk, IfErr, OnOk, IfSome, IsErrOf, Err, length, option_map, slice_get};
 ghost use Rattle.std.specs.List.{IsDistinct};
 ghost use Rattle.cv_component.specs.Nesting.{depth};
 ghost use Rattle.cv_spec_text.specs.Splits.{IsSpelt};
@@ -106,6 +106,7 @@ impl Declared {
         ensures part { option_map flat result ≡ slice_get (flattened (pieces_of self.now)) number }
         ensures within { IfSome result (λ part. EndsWithin (length (flattened (pieces_of self.now))) number (flat part)) }
         ensures spelt { IfSome result (λ part. IsSpeltPiece (flat part)) }
+        ensures fits { length (flattened (pieces_of self.now)) < 2 ^ 64 }
     {
         match at(&self.parts, number) {
             Some(place) => lent(self.list.tokens(), *place),

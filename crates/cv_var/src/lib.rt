@@ -17,3 +17,6 @@ pub use flat::Part;
 pub use laws::pieces_are_read;
 pub use refusal::VarErr;
 pub use segment::Segment;
+
+#[cfg(test)]
+mod tests;
