@@ -45,6 +45,10 @@ module _ (rows : List (List ℕ)) (graph : IsGraph rows) (s : State) (now : IsSe
         pub leave_top : end ≤ s₁.size
         leave_top = omega (arith, end_below, ap (λ x. x.size) asked_is)
 
+        pub leave_room : s₁.done + s₁.size ≤ length s₁.met
+        leave_room =
+            subst (λ x. x.done + x.size ≤ length x.met) (sym asked_is) (omega (arith, now.room, now.sized.met))
+
         pub stack_nodes : (place : ℕ) → place < s₁.size → get_or s₁.stack place 0 < length s₁.met
         stack_nodes =
             subst (λ x. (place : ℕ) → place < x.size → get_or x.stack place 0 < length x.met) (sym asked_is)

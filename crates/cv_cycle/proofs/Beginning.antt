@@ -8,7 +8,7 @@ use Rattle.cv_spec_element.specs.Walks.{IsCyclic}
 use Rattle.cv_cycle.specs.Marks.{IsMarked, StandsIn, unmarked_count}
 use Rattle.cv_cycle.specs.State.{State, HasRoom, fresh, entered}
 use Rattle.cv_cycle.specs.Search.{IsWalk, IsTarget, IsSearch}
-use Rattle.cv_cycle.proofs.Marking.{IsMarked-below, IsMarked-set, IsMarked-set_is, unmarked_at, unmarked_count-set, unmarked_count-least, none_marked-fresh}
+use Rattle.cv_cycle.proofs.Marking.{IsMarked-below, IsMarked-set, IsMarked-set_is, unmarked_at, unmarked_count-set, unmarked_count-fresh, unmarked_count-none, none_marked-fresh}
 use Rattle.cv_cycle.proofs.Reached.{IsCyclic-below}
 use Rattle.cv_cycle.proofs.Components.{IsWalk-root}
 use Rattle.cv_cycle.proofs.Readings.{IsWalk-renamed, IsWalk-end, sum-reads}
@@ -30,6 +30,7 @@ fresh_search rows = record {
     closed = length-replicate (length rows) false;
     flags = length-replicate (length rows) false;
     reads = length-replicate (length rows) 0;
+    order = length-replicate (length rows) 0;
   };
   walk = record {
     apart = λ i j below_i below_j e. absurd (omega arith);
@@ -51,7 +52,12 @@ fresh_search rows = record {
   unread = λ v unmet. get_or-fresh (length rows) v;
   path_rises = λ a b order below. absurd (omega arith);
   starts_rise = λ a b order below. absurd (omega arith);
-  room = omega (arith, unmarked_count-least (replicate (length rows) false), length-replicate (length rows) false);
+  room = omega (arith, unmarked_count-fresh (length rows));
+  ordered = record {
+    written = λ v. ((λ closed. absurd (none v closed)), (λ stands. absurd (omega (arith, stands.2))));
+    once = λ i j below_i below_j e. absurd (omega arith);
+    earlier = λ i w below. absurd (omega arith);
+  };
   few = λ v below. omega (arith, get_or-fresh (length rows) v);
   unfinished = λ i on. absurd (omega (arith, on.2));
 }
@@ -138,6 +144,7 @@ module _ (rows : List (List ℕ)) (s : State) (now : IsSearch rows s) where
         closed = now.sized.closed;
         flags = now.sized.flags;
         reads = now.sized.reads;
+        order = now.sized.order;
       };
       walk = IsWalk-renamed (IsTarget rows) (λ i. get_or (set s.stack s.size root) i 0) (s.size + 1) (λ i. i ≡ 0) (StandsIn (set s.path s.height s.size) 0 (s.height + 1)) (λ b. b ≡ 0) (StandsIn (set s.starts s.count s.size) 0 (s.count + 1)) (IsMarked s.closed) (IsMarked s.closed) (IsMarked s.flags) (IsMarked s.flags) (λ v. get_or s.reads v 0)
           (only_place s.path s.height low (omega (arith, low, below, now.sized.path))) (only_place s.starts s.count no_starts (omega (arith, no_starts, below, now.sized.starts))) (λ v. ((λ h. h), (λ h. h))) (λ v. ((λ h. h), (λ h. h))) begun_walk;
@@ -150,6 +157,7 @@ module _ (rows : List (List ℕ)) (s : State) (now : IsSearch rows s) where
       room =
           let marks : unmarked_count (set s.met root true) + 1 ≡ unmarked_count s.met = unmarked_count-set s.met root (omega (arith, below, now.sized.met)) (unmarked_at s.met root unmet) in
           omega (arith, marks, now.room);
+      ordered = now.ordered;
       few = now.few;
       unfinished = λ i on.
           let value : get_or (set s.stack s.size root) i 0 ≡ root = stack_at i (let zero_is : i ≡ 0 = (only_place s.path s.height low (omega (arith, low, below, now.sized.path)) i).1 on in omega (arith, zero_is)) in
@@ -169,6 +177,34 @@ module _ (rows : List (List ℕ)) (s : State) (now : IsSearch rows s) where
 
     pub begin_keeps : (v : ℕ) → IsMarked s.met v → IsMarked (set s.met root true) v
     begin_keeps v old = IsMarked-set s.met root v old
+
+  -- once every node was met and the path is empty, each node stands in the order
+  module _ (low : s.height ≡ 0) (all : (v : ℕ) → v < length rows → IsMarked s.met v) where
+    all_done : s.done ≡ length rows
+    all_done =
+        let none : unmarked_count s.met ≡ 0 = unmarked_count-none s.met (λ v below. all v (omega (arith, below, now.sized.met))) in
+        omega (arith, none, nothing_left low, now.room)
+
+    pub order_stands : (v : ℕ) → (v < length rows) ↔ StandsIn s.order 0 (length rows) v
+    order_stands v = (forth, back)
+      where
+        forth : v < length rows → StandsIn s.order 0 (length rows) v
+        forth below =
+            elim ((now.met v).0 (all v below)) [
+              | inl closed ↦ subst (λ n. StandsIn s.order 0 n v) all_done ((now.ordered.written v).0 closed)
+              | inr stands ↦ absurd (omega (arith, stands.2, nothing_left low))
+            ]
+
+        back : StandsIn s.order 0 (length rows) v → v < length rows
+        back stands =
+            let closed : IsMarked s.closed v = (now.ordered.written v).1 (subst (λ n. StandsIn s.order 0 n v) (sym all_done) stands) in
+            omega (arith, IsMarked-below s.closed v closed, now.sized.closed)
+
+    pub order_once : (i j : ℕ) → i < length rows → j < length rows → get_or s.order i 0 ≡ get_or s.order j 0 → i ≡ j
+    order_once i j below_i below_j = now.ordered.once i j (omega (arith, below_i, all_done)) (omega (arith, below_j, all_done))
+
+    pub order_earlier : (i w : ℕ) → i < length rows → ¬ IsCyclic (HasEdge rows) (get_or s.order i 0) → HasEdge rows (get_or s.order i 0) w → StandsIn s.order 0 i w
+    order_earlier i w below = now.ordered.earlier i w (omega (arith, below, all_done))
 
   -- once every node was met and the path is empty, the flags are right
   pub flags_right : s.height ≡ 0 → ((v : ℕ) → v < length rows → IsMarked s.met v) → (v : ℕ) → IsMarked s.flags v ↔ IsCyclic (HasEdge rows) v

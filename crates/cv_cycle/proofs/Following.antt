@@ -48,6 +48,7 @@ module _ (rows : List (List ℕ)) (graph : IsGraph rows) (s : State) (now : IsSe
       closed = now.sized.closed;
       flags = now.sized.flags;
       reads = reads_length rows s now high;
+      order = now.sized.order;
     };
     walk = IsWalk-meet_closed (IsTarget rows) stack s.size (StandsIn s.path 0 s.height) (StandsIn s.starts 0 s.count) (IsMarked s.closed) (IsMarked s.flags) (reads_now rows s now high) (reads_then rows s now high) (top rows s now high) at_place now.walk (is_top rows s now high) to only closed;
     met = now.met;
@@ -56,6 +57,7 @@ module _ (rows : List (List ℕ)) (graph : IsGraph rows) (s : State) (now : IsSe
     path_rises = now.path_rises;
     starts_rise = now.starts_rise;
     room = now.room;
+    ordered = now.ordered;
     few = few_then rows s now high;
     unfinished = unfinished_then rows s now high more;
   }
@@ -144,6 +146,7 @@ module _ (rows : List (List ℕ)) (graph : IsGraph rows) (s : State) (now : IsSe
         closed = now.sized.closed;
         flags = now.sized.flags;
         reads = reads_length rows s now high;
+        order = now.sized.order;
       };
       walk = IsWalk-renamed (IsTarget rows) (λ i. get_or (set s.stack s.size to) i 0) (s.size + 1) (λ i. StandsIn s.path 0 s.height i ⊎ (i ≡ s.size)) (StandsIn (set s.path s.height s.size) 0 (s.height + 1)) (λ b. StandsIn s.starts 0 s.count b ⊎ (b ≡ s.size)) (StandsIn (set s.starts s.count s.size) 0 (s.count + 1)) (IsMarked s.closed) (IsMarked s.closed) (IsMarked s.flags) (IsMarked s.flags) (reads_then rows s now high)
           (StandsIn-push s.path s.height s.size height_left) (StandsIn-push s.starts s.count s.size count_left) (λ v. ((λ h. h), (λ h. h))) (λ v. ((λ h. h), (λ h. h)))
@@ -156,6 +159,7 @@ module _ (rows : List (List ℕ)) (graph : IsGraph rows) (s : State) (now : IsSe
       room =
           let marks : unmarked_count (set s.met to true) + 1 ≡ unmarked_count s.met = unmarked_count-set s.met to (omega (arith, to_below, now.sized.met)) (unmarked_at s.met to unmet) in
           omega (arith, marks, now.room);
+      ordered = now.ordered;
       few = few_then rows s now high;
       unfinished = entered_unfinished;
     }
@@ -239,6 +243,7 @@ module _ (rows : List (List ℕ)) (graph : IsGraph rows) (s : State) (now : IsSe
         closed = now.sized.closed;
         flags = looped_length;
         reads = reads_length rows s now high;
+        order = now.sized.order;
       };
       walk = IsWalk-renamed (IsTarget rows) stack s.size (StandsIn s.path 0 s.height) (StandsIn s.path 0 s.height) (λ b. StandsIn s.starts 0 s.count b × (b ≤ to_place)) (StandsIn s.starts 0 s'.count) (IsMarked s.closed) (IsMarked s.closed) (IsMarked s'.flags) (IsMarked s'.flags) (reads_then rows s now high)
           (λ i. ((λ h. h), (λ h. h))) starts_are (λ v. ((λ h. h), (λ h. h))) (λ v. ((λ h. h), (λ h. h))) met_walk;
@@ -248,6 +253,7 @@ module _ (rows : List (List ℕ)) (graph : IsGraph rows) (s : State) (now : IsSe
       path_rises = now.path_rises;
       starts_rise = Rises-fewer s.starts s.count s'.count meets.fewer now.starts_rise;
       room = now.room;
+      ordered = now.ordered;
       few = few_then rows s now high;
       unfinished = unfinished_then rows s now high more;
     }

@@ -4,11 +4,12 @@ use Rattle.std.specs.Prelude.{slice_get}
 use Rattle.std.proofs.lemmas.Bool.{cases_eq, cases_lt}
 use Rattle.cv_graph.specs.Edges.{targets}
 use Rattle.cv_cycle.specs.Marks.{IsMarked, StandsIn}
-use Rattle.cv_cycle.specs.State.{State, shortened, cut, asked, Closes, Leaves}
-use Rattle.cv_cycle.specs.Search.{StandsFrom, IsTarget, IsSearch}
+use Rattle.cv_cycle.specs.State.{State, shortened, Copies, written, cut, asked, Cuts, Closes, Leaves}
+use Rattle.cv_cycle.specs.Search.{StandsFrom, IsWalk, IsTarget, IsSearch}
 use Rattle.cv_cycle.proofs.Places.{StandsIn-shorter, Rises-fewer}
 use Rattle.cv_cycle.proofs.Components.{IsWalk-leave, IsWalk-close}
 use Rattle.cv_cycle.proofs.Readings.{IsWalk-renamed}
+use Rattle.cv_cycle.proofs.Ordering.{IsOrdered-close}
 use Rattle.cv_cycle.proofs.Top.{top, node, place, reads_now, reads_then, top_below, top_highest, is_top, some_start, reads_other, unread_then, few_then, reads_length, all_asked}
 
 module _ (rows : List (List ℕ)) (s : State) (now : IsSearch rows s) (high : 0 < s.height) (none : slice_get (targets rows (node rows s now high)) (place rows s now high) ≡ None) where
@@ -56,6 +57,7 @@ module _ (rows : List (List ℕ)) (s : State) (now : IsSearch rows s) (high : 0 
       closed = now.sized.closed;
       flags = now.sized.flags;
       reads = reads_length rows s now high;
+      order = now.sized.order;
     };
     walk = IsWalk-renamed (IsTarget rows) stack s.size (λ i. StandsIn s.path 0 s.height i × (i < at_top)) (StandsIn s.path 0 (s.height - 1)) (StandsIn s.starts 0 s.count) (StandsIn s.starts 0 s.count) (IsMarked s.closed) (IsMarked s.closed) (IsMarked s.flags) (IsMarked s.flags) (reads_then rows s now high)
         path_are (λ b. ((λ h. h), (λ h. h))) (λ v. ((λ h. h), (λ h. h))) (λ v. ((λ h. h), (λ h. h)))
@@ -66,11 +68,12 @@ module _ (rows : List (List ℕ)) (s : State) (now : IsSearch rows s) (high : 0 
     path_rises = Rises-fewer s.path s.height (s.height - 1) (omega arith) now.path_rises;
     starts_rise = now.starts_rise;
     room = now.room;
+    ordered = now.ordered;
     few = few_then rows s now high;
     unfinished = left_unfinished;
   }
 
-  module _ (s' : State) (start : get_or s.starts (s.count - 1) 0 ≡ at_top) (closes : Closes (shortened (asked s at_node)) s' at_top) where
+  module _ (order : List ℕ) (s' : State) (start : get_or s.starts (s.count - 1) 0 ≡ at_top) (copies : Copies s.order order s.done s.stack at_top s.size) (closes : Cuts (written (shortened (asked s at_node)) at_top order) s' at_top) where
     start_in : StandsIn s.starts 0 s.count at_top
     start_in = (s.count - 1, zero-le, omega (arith, some_start rows s now high), start)
 
@@ -119,7 +122,13 @@ module _ (rows : List (List ℕ)) (s : State) (now : IsSearch rows s) (high : 0 
               | inr stands ↦ (now.met v).1 (inr (stands.0, zero-le, stands.2, stands.3))
             ]
 
-    closed_search : IsSearch rows (asked (cut (shortened s) at_top s'.closed s'.flags) at_node)
+    closed_walk : IsWalk (IsTarget rows) stack at_top (StandsIn s.path 0 (s.height - 1)) (StandsIn s.starts 0 (s.count - 1)) (IsMarked s'.closed) (IsMarked s'.flags) (reads_then rows s now high)
+    closed_walk =
+        IsWalk-renamed (IsTarget rows) stack at_top (λ i. StandsIn s.path 0 s.height i × (i < at_top)) (StandsIn s.path 0 (s.height - 1)) (λ b. StandsIn s.starts 0 s.count b × (b < at_top)) (StandsIn s.starts 0 (s.count - 1)) (λ v. IsMarked s.closed v ⊎ StandsFrom stack s.size at_top v) (IsMarked s'.closed) (IsMarked s'.flags) (IsMarked s'.flags) (reads_then rows s now high)
+        path_are starts_are closed_are (λ v. ((λ h. h), (λ h. h)))
+        (IsWalk-close (IsTarget rows) stack s.size (StandsIn s.path 0 s.height) (StandsIn s.starts 0 s.count) (IsMarked s.closed) (IsMarked s.flags) (reads_now rows s now high) (reads_then rows s now high) at_top at_place now.walk (is_top rows s now high) (all_asked rows s now high none) start_in (IsMarked s'.flags) flagged_wider flagged_all flagged_narrower)
+
+    closed_search : IsSearch rows (asked (cut (written (shortened s) at_top order) at_top s'.closed s'.flags) at_node)
     closed_search = record {
       sized = record {
         stack = now.sized.stack;
@@ -130,24 +139,34 @@ module _ (rows : List (List ℕ)) (s : State) (now : IsSearch rows s) (high : 0 
         closed = closes.closed_count ∙ now.sized.closed;
         flags = closes.flags_count ∙ now.sized.flags;
         reads = reads_length rows s now high;
+        order = copies.count ∙ now.sized.order;
       };
-      walk = IsWalk-renamed (IsTarget rows) stack at_top (λ i. StandsIn s.path 0 s.height i × (i < at_top)) (StandsIn s.path 0 (s.height - 1)) (λ b. StandsIn s.starts 0 s.count b × (b < at_top)) (StandsIn s.starts 0 (s.count - 1)) (λ v. IsMarked s.closed v ⊎ StandsFrom stack s.size at_top v) (IsMarked s'.closed) (IsMarked s'.flags) (IsMarked s'.flags) (reads_then rows s now high)
-          path_are starts_are closed_are (λ v. ((λ h. h), (λ h. h)))
-          (IsWalk-close (IsTarget rows) stack s.size (StandsIn s.path 0 s.height) (StandsIn s.starts 0 s.count) (IsMarked s.closed) (IsMarked s.flags) (reads_now rows s now high) (reads_then rows s now high) at_top at_place now.walk (is_top rows s now high) (all_asked rows s now high none) start_in (IsMarked s'.flags) flagged_wider flagged_all flagged_narrower);
+      walk = closed_walk;
       met = closed_met;
       places = λ i below. now.places i (omega (arith, below, top_below rows s now high));
       unread = unread_then rows s now high;
       path_rises = Rises-fewer s.path s.height (s.height - 1) (omega arith) now.path_rises;
       starts_rise = Rises-fewer s.starts s.count (s.count - 1) (omega arith) now.starts_rise;
       room = omega (arith, now.room, top_below rows s now high);
+      ordered = IsOrdered-close rows stack s.size at_top (IsMarked s.closed) (IsMarked s'.closed) (IsMarked s'.flags) s.order order s.done now.ordered now.walk.unclosed now.walk.apart closed_are closed_walk.kept closed_walk.sound (λ i from below two. flagged_all i from below two) copies.kept copies.copied;
       few = few_then rows s now high;
       unfinished = left_unfinished;
     }
 
+  module _ (s' : State) (start : get_or s.starts (s.count - 1) 0 ≡ at_top) (closes : Closes (shortened (asked s at_node)) s' at_top) where
+    abbrev order_now : List ℕ
+    order_now = closes.between.order
+
+    cuts : Cuts (written (shortened (asked s at_node)) at_top order_now) s' at_top
+    cuts = subst (λ x. Cuts x s' at_top) closes.writes.rest closes.cuts
+
+    whole_search : IsSearch rows s'
+    whole_search = subst (λ x. IsSearch rows x) (sym cuts.rest) (closed_search order_now s' start closes.writes.copies cuts)
+
   pub leave_search : (s' : State) → Leaves (asked s at_node) s' at_top → IsSearch rows s'
   leave_search s' leaves =
       elim (cases_eq (get_or s.starts (s.count - 1) 0) at_top) [
-        | inl start ↦ let closes = leaves.whole start in subst (λ x. IsSearch rows x) (sym closes.rest) (closed_search s' start closes)
+        | inl start ↦ whole_search s' start (leaves.whole start)
         | inr other ↦ subst (λ x. IsSearch rows x) (sym (leaves.plain other)) (left_search other)
       ]
 
@@ -155,6 +174,6 @@ module _ (rows : List (List ℕ)) (s : State) (now : IsSearch rows s) (high : 0 
   pub leave_keeps : (s' : State) → Leaves (asked s at_node) s' at_top → (s'.reads ≡ set s.reads at_node (at_place + 1)) × (s'.met ≡ s.met)
   leave_keeps s' leaves =
       elim (cases_eq (get_or s.starts (s.count - 1) 0) at_top) [
-        | inl start ↦ let closes = leaves.whole start in (ap (λ x. x.reads) closes.rest, ap (λ x. x.met) closes.rest)
+        | inl start ↦ let closes = leaves.whole start in (ap (λ x. x.reads) (cuts s' start closes).rest, ap (λ x. x.met) (cuts s' start closes).rest)
         | inr other ↦ (ap (λ x. x.reads) (leaves.plain other), ap (λ x. x.met) (leaves.plain other))
       ]

@@ -5,6 +5,7 @@ pub mod Components
 pub mod Readings
 pub mod Top
 pub mod Following
+pub mod Ordering
 pub mod Leaving
 pub mod Beginning
 pub mod Advancing

@@ -64,6 +64,19 @@ unmarked_count-least (false ∷ marked) =
     let rest : unmarked_count marked ≤ length marked = unmarked_count-least marked in
     omega (arith, rest, sum_by-cons (λ b. cond (not b) 1 0) false marked)
 
+pub unmarked_count-fresh : (nodes : ℕ) → unmarked_count (replicate nodes false) ≡ nodes
+unmarked_count-fresh zero = omega arith
+unmarked_count-fresh (suc nodes) =
+    omega (arith, unmarked_count-fresh nodes, sum_by-cons (λ b. cond (not b) 1 0) false (replicate nodes false))
+
+-- where each node has a mark, none has none
+pub unmarked_count-none : (marked : List Bool) → ((v : ℕ) → v < length marked → IsMarked marked v) → unmarked_count marked ≡ 0
+unmarked_count-none [] all = omega arith
+unmarked_count-none (flag ∷ marked) all =
+    let none : ◌≡◌ {A = ℕ} (cond (not flag) 1 0) 0 = ap (λ b. cond (not b) 1 0) (all 0 (omega arith)) in
+    let rest : unmarked_count marked ≡ 0 = unmarked_count-none marked (λ v below. all (suc v) (omega arith)) in
+    omega (arith, none, rest, sum_by-cons (λ b. cond (not b) 1 0) flag marked)
+
 pub none_marked-fresh : (nodes node : ℕ) → ¬ IsMarked (replicate nodes false) node
 none_marked-fresh nodes node is = let clash : true ≡ false = sym is ∙ get_or-fresh nodes node in cc
   where

@@ -10,10 +10,10 @@ use Rattle.cv_cycle.specs.Search.{edge, IsWalk, IsTarget}
 pub IsTarget-only : (rows : List (List ℕ)) (node k to other : ℕ) → IsTarget rows node k to → IsTarget rows node k other → other ≡ to
 IsTarget-only rows node k to other first second = let both : Some other ≡ Some to = sym second ∙ first in cc
 
-edge_from_HasEdge : (rows : List (List ℕ)) (v w : ℕ) → HasEdge rows v w → edge (IsTarget rows) v w
+pub edge_from_HasEdge : (rows : List (List ℕ)) (v w : ℕ) → HasEdge rows v w → edge (IsTarget rows) v w
 edge_from_HasEdge rows v w has = (has.0, slice_get_read (targets rows v) (length (targets rows v)) has.0 w refl has.1 (sym has.2))
 
-HasEdge-from_edge : (rows : List (List ℕ)) (v w : ℕ) → edge (IsTarget rows) v w → HasEdge rows v w
+pub HasEdge-from_edge : (rows : List (List ℕ)) (v w : ℕ) → edge (IsTarget rows) v w → HasEdge rows v w
 HasEdge-from_edge rows v w step =
     (step.0, slice_get_within (targets rows v) step.0 w step.1, get_or_from_slice_get (targets rows v) step.0 w w step.1)
 

@@ -1,6 +1,6 @@
 -- What a walk that finds the components of a graph keeps. The contracts of the private functions cite it.
 use Rattle.std.specs.Prelude.{◌≡◌, ℕ, ◌+◌, ◌<◌, ◌≤◌, ◌↔◌, ◌⊎◌, List, length, Some, slice_get, slice_index}
-use Rattle.cv_graph.specs.Edges.{targets}
+use Rattle.cv_graph.specs.Edges.{targets, HasEdge}
 use Rattle.cv_spec_element.specs.Walks.{Reaches, IsCyclic}
 use Rattle.cv_cycle.specs.Marks.{IsMarked, unmarked_count, StandsIn}
 use Rattle.cv_cycle.specs.State.{State, IsSized}
@@ -38,6 +38,13 @@ IsTarget rows node k to = slice_get (targets rows node) k ≡ Some to
 abbrev pub Rises : List ℕ → ℕ → Type 0
 Rises places height = (a b : ℕ) → a < b → b < height → slice_index places a < slice_index places b
 
+-- The nodes of complete components stand in the list once, and behind every node to which an edge leads from them, where they
+-- are on no cycle.
+pub record IsOrdered (rows : List (List ℕ)) (order : List ℕ) (done : ℕ) (IsClosed : ℕ → Type 0) : Type 0 where
+  pub written : (v : ℕ) → IsClosed v ↔ StandsIn order 0 done v
+  pub once : (i j : ℕ) → i < done → j < done → slice_index order i ≡ slice_index order j → i ≡ j
+  pub earlier : (i w : ℕ) → i < done → ¬ IsCyclic (HasEdge rows) (slice_index order i) → HasEdge rows (slice_index order i) w → StandsIn order 0 i w
+
 -- what a walk over the graph keeps between its moves
 pub record IsSearch (rows : List (List ℕ)) (s : State) : Type 0 where
   pub sized : IsSized (length rows) s
@@ -47,6 +54,7 @@ pub record IsSearch (rows : List (List ℕ)) (s : State) : Type 0 where
   pub unread : (v : ℕ) → ¬ IsMarked s.met v → slice_index s.reads v ≡ 0
   pub path_rises : Rises s.path s.height
   pub starts_rise : Rises s.starts s.count
-  pub room : s.size + unmarked_count s.met ≤ length rows
+  pub room : s.done + (s.size + unmarked_count s.met) ≡ length rows
+  pub ordered : IsOrdered rows s.order s.done (IsMarked s.closed)
   pub few : (v : ℕ) → v < length rows → slice_index s.reads v ≤ length (targets rows v) + 1
   pub unfinished : (i : ℕ) → StandsIn s.path 0 s.height i → slice_index s.reads (slice_index s.stack i) ≤ length (targets rows (slice_index s.stack i))

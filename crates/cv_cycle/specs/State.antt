@@ -19,6 +19,9 @@ pub record State : Type 0 where
   pub flags : List Bool
   -- how many edges of each node were asked for
   pub reads : List ℕ
+  -- the nodes of complete components, one component behind another, and how many they are
+  pub order : List ℕ
+  pub done : ℕ
 
 -- no node was met
 abbrev pub fresh : ℕ → State
@@ -34,6 +37,8 @@ fresh nodes = record {
   closed = replicate nodes false;
   flags = replicate nodes false;
   reads = replicate nodes 0;
+  order = replicate nodes 0;
+  done = 0;
 }
 
 -- each list has room for so many nodes
@@ -46,6 +51,7 @@ pub record IsSized (nodes : ℕ) (s : State) : Type 0 where
   pub closed : length s.closed ≡ nodes
   pub flags : length s.flags ≡ nodes
   pub reads : length s.reads ≡ nodes
+  pub order : length s.order ≡ nodes
 
 -- there is room for one more node
 pub record HasRoom (s : State) : Type 0 where
@@ -67,6 +73,8 @@ entered s node = record {
   closed = s.closed;
   flags = s.flags;
   reads = s.reads;
+  order = s.order;
+  done = s.done;
 }
 
 -- other starts and flags
@@ -92,17 +100,37 @@ pub record Follows (s s' : State) (node to : ℕ) : Type 0 where
   pub closed : IsMarked s.met to → IsMarked s.closed to → s' ≡ s
   pub pending : IsMarked s.met to → ¬ IsMarked s.closed to → Meets s s' node to
 
--- what stands on the stack from the place on was closed as a component
+-- the nodes of one list from a place to another stand in the other list behind its first ones
+pub record Copies (order order' : List ℕ) (done : ℕ) (nodes : List ℕ) (from end : ℕ) : Type 0 where
+  pub count : length order' ≡ length order
+  pub kept : (i : ℕ) → i < done → slice_index order' i ≡ slice_index order i
+  pub copied : (i : ℕ) → i < end - from → slice_index order' (done + i) ≡ slice_index nodes (from + i)
+
+-- the order goes on with what stands on the stack from the place on
+abbrev pub written : State → ℕ → List ℕ → State
+written s top order = record s { order = order; done = s.done + (s.size - top) }
+
+pub record Writes (s s' : State) (top : ℕ) : Type 0 where
+  pub rest : s' ≡ written s top s'.order
+  pub copies : Copies s.order s'.order s.done s.stack top s.size
+
+-- what stands on the stack from the place on is taken off it, and marked
 abbrev pub cut : State → ℕ → List Bool → List Bool → State
 cut s top closed flags = record s { count = s.count - 1; size = top; closed = closed; flags = flags }
 
-pub record Closes (s s' : State) (top : ℕ) : Type 0 where
+pub record Cuts (s s' : State) (top : ℕ) : Type 0 where
   pub rest : s' ≡ cut s top s'.closed s'.flags
   pub closed_count : length s'.closed ≡ length s.closed
   pub closed : (node : ℕ) → IsMarked s'.closed node ↔ (IsMarked s.closed node ⊎ StandsIn s.stack top s.size node)
   pub flags_count : length s'.flags ≡ length s.flags
   pub flags : 1 < s.size - top → (node : ℕ) → IsMarked s'.flags node ↔ (IsMarked s.flags node ⊎ StandsIn s.stack top s.size node)
   pub same_flags : s.size - top ≤ 1 → s'.flags ≡ s.flags
+
+-- what stands on the stack from the place on was closed as a component
+pub record Closes (s s' : State) (top : ℕ) : Type 0 where
+  pub between : State
+  pub writes : Writes s between top
+  pub cuts : Cuts between s' top
 
 -- the path without its end
 abbrev pub shortened : State → State

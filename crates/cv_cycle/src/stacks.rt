@@ -1,5 +1,6 @@
-ghost use Rattle.std.specs.Prelude.{ℕ, ◌<◌, ◌≤◌, ◌-◌, ◌↔◌, ◌⊎◌, ◌≡◌, length, slice_index};
+ghost use Rattle.std.specs.Prelude.{ℕ, ◌<◌, ◌≤◌, ◌+◌, ◌-◌, ◌↔◌, ◌⊎◌, ◌≡◌, length, slice_index};
 ghost use Rattle.cv_cycle.specs.Marks.{IsMarked, StandsIn};
+ghost use Rattle.cv_cycle.specs.State.{Copies};
 
 /// Marks the nodes that stand in the list from the one place to the other.
 pub fn mark_nodes(marks: &mut [bool], nodes: &[u32], from: usize, end: usize)
@@ -25,6 +26,18 @@ pub fn mark_several(marks: &mut [bool], nodes: &[u32], from: usize, end: usize)
 {
     if end - from > 1 {
         mark_nodes(marks, nodes, from, end);
+    }
+}
+
+/// Writes the nodes that stand in the list from the one place to the other behind the first `done` of the order.
+pub fn copy_nodes(order: &mut [u32], done: usize, nodes: &[u32], from: usize, end: usize)
+    requires order { from ≤ end }
+    requires end { end ≤ length nodes.now }
+    requires room { done + (end - from) ≤ length order.old }
+    ensures { Copies order.old order.new done nodes.now from end }
+{
+    for place in from..end {
+        order[done + (place - from)] = nodes[place];
     }
 }
 

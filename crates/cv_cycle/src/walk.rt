@@ -1,4 +1,5 @@
-use crate::stacks::{drop_above, mark_nodes, mark_several};
+use crate::order::Order;
+use crate::stacks::{copy_nodes, drop_above, mark_nodes, mark_several};
 use cv_graph::{Graph, OutOfMemory, Steps};
 use std::alloc::Global;
 use std::marker::Model;
@@ -26,6 +27,9 @@ pub struct Walk {
     flags: Vec<bool>,
     /// How many edges of each node were asked for.
     reads: Vec<u32>,
+    /// The nodes of complete components, one component behind another.
+    order: Vec<u32>,
+    done: usize,
 }
 
 impl Model for Walk {
@@ -33,7 +37,7 @@ impl Model for Walk {
 
     ghost Value = { State };
 
-    ghost view = { λ w. record { stack = w.stack.items; size = w.size; path = w.path.items; height = w.height; starts = w.starts.items; count = w.count; place = w.place.items; met = w.met.items; closed = w.closed.items; flags = w.flags.items; reads = w.reads.items } };
+    ghost view = { λ w. record { stack = w.stack.items; size = w.size; path = w.path.items; height = w.height; starts = w.starts.items; count = w.count; place = w.place.items; met = w.met.items; closed = w.closed.items; flags = w.flags.items; reads = w.reads.items; order = w.order.items; done = w.done } };
 }
 
 impl Walk {
@@ -41,7 +45,7 @@ impl Walk {
     ghost use Rattle.cv_cycle.specs.Marks.{IsMarked, StandsIn};
     ghost use Rattle.cv_graph.specs.Edges.{IsGraph, targets, most_targets};
     ghost use Rattle.cv_cycle.specs.Search.{IsSearch};
-    ghost use Rattle.cv_cycle.specs.State.{State, fresh, IsSized, HasRoom, entered, Meets, Follows, Closes, Leaves, asked};
+    ghost use Rattle.cv_cycle.specs.State.{State, fresh, IsSized, HasRoom, entered, Meets, Follows, Writes, Cuts, Closes, Leaves, asked};
 
     /// A walk that met no node yet. It takes all the memory that the walk will need.
     pub fn new(alloc: Global, nodes: usize) -> Result<Walk, OutOfMemory>
@@ -59,6 +63,8 @@ impl Walk {
             closed: vec![in alloc; false; nodes]?,
             flags: vec![in alloc; false; nodes]?,
             reads: vec![in alloc; 0u32; nodes]?,
+            order: vec![in alloc; 0u32; nodes]?,
+            done: 0,
         })
     }
 
@@ -77,11 +83,15 @@ impl Walk {
         self.height == 0
     }
 
-    /// The flags, once the walk is over.
-    pub fn into_flags(self) -> Vec<bool>
-        ensures { result.items ≡ self.flags }
+    /// The flags and the order, once the walk is over.
+    pub fn into_order(self) -> Order
+        ensures cyclic { result.cyclic.items ≡ self.flags }
+        ensures nodes { result.nodes.items ≡ self.order }
     {
-        self.flags
+        Order {
+            cyclic: self.flags,
+            nodes: self.order,
+        }
     }
 
     /// A node that wasn't met goes on the stack, ends the path, and is a start.
@@ -136,20 +146,46 @@ impl Walk {
         }
     }
 
-    /// What stands on the stack from the start at its end is a component. Its nodes are on a cycle where there is
-    /// more than one.
+    /// The order goes on with what stands on the stack from the place on.
+    fn write(&mut self, top: usize)
+        requires sized { IsSized (length self.old.met) self.old }
+        requires top { top ≤ self.old.size }
+        requires size { self.old.size ≤ length self.old.met }
+        requires room { self.old.done + self.old.size ≤ length self.old.met }
+        ensures { Writes self.old self.new top }
+    {
+        copy_nodes(&mut self.order, self.done, &self.stack, top, self.size);
+        self.done += self.size - top;
+    }
+
+    /// What stands on the stack from the start at its end is a component, and is taken off. Its nodes are on a cycle
+    /// where there is more than one.
+    fn cut(&mut self, top: usize)
+        requires sized { IsSized (length self.old.met) self.old }
+        requires count { 0 < self.old.count }
+        requires top { top ≤ self.old.size }
+        requires size { self.old.size ≤ length self.old.met }
+        requires nodes { (place : ℕ) → place < self.old.size → slice_index self.old.stack place < length self.old.met }
+        ensures { Cuts self.old self.new top }
+    {
+        self.count -= 1;
+        mark_nodes(&mut self.closed, &self.stack, top, self.size);
+        mark_several(&mut self.flags, &self.stack, top, self.size);
+        self.size = top;
+    }
+
+    /// A component is complete: it is written down, and taken off the stack.
     fn close(&mut self, top: usize)
         requires sized { IsSized (length self.old.met) self.old }
         requires count { 0 < self.old.count }
         requires top { top ≤ self.old.size }
         requires size { self.old.size ≤ length self.old.met }
         requires nodes { (place : ℕ) → place < self.old.size → slice_index self.old.stack place < length self.old.met }
+        requires room { self.old.done + self.old.size ≤ length self.old.met }
         ensures { Closes self.old self.new top }
     {
-        self.count -= 1;
-        mark_nodes(&mut self.closed, &self.stack, top, self.size);
-        mark_several(&mut self.flags, &self.stack, top, self.size);
-        self.size = top;
+        self.write(top);
+        self.cut(top);
     }
 
     /// The node at the end of the path has no further edge.
@@ -160,6 +196,7 @@ impl Walk {
         requires top { top ≤ self.old.size }
         requires size { self.old.size ≤ length self.old.met }
         requires nodes { (place : ℕ) → place < self.old.size → slice_index self.old.stack place < length self.old.met }
+        requires room { self.old.done + self.old.size ≤ length self.old.met }
         ensures { Leaves self.old self.new top }
     {
         self.height -= 1;

@@ -23,6 +23,9 @@ leave-requires-clause-top g c = advancing.leave_top _ c.requires.valid _ c.requi
 pub leave-requires-clause-nodes : goal.leave-requires-clause-nodes
 leave-requires-clause-nodes g c = advancing.stack_nodes _ c.requires.valid _ c.requires.search c.requires.path _ c.top-top.ensures _ c.node_at-node.ensures _ c.ask.ensures.asked
 
+pub leave-requires-clause-room : goal.leave-requires-clause-room
+leave-requires-clause-room g c = advancing.leave_room _ c.requires.valid _ c.requires.search c.requires.path _ c.top-top.ensures _ c.node_at-node.ensures _ c.ask.ensures.asked
+
 pub follow-requires-clause-to : goal.follow-requires-clause-to
 follow-requires-clause-to g c = advancing.target_met _ c.requires.valid _ c.requires.search c.requires.path _ c.top-top.ensures _ c.node_at-node.ensures _ c.ask.ensures.asked _ (sym c.in-Some.ensures.edge)
 
