@@ -93,7 +93,7 @@ fn lines_by_themselves(rt: HostRuntime) -> Result<(), Fail> {
     let element = computed(alloc, &key, vec![in alloc; Cause::Limit(3)]?)?;
     let mut out = Vec::new(alloc);
     note_line(alloc, &NOTES[1], &mut out)?;
-    value_lines(alloc, 4, &key, &element.copy(alloc)?, &mut out)?;
+    value_lines(alloc, 4, &key, &element.copy()?, &mut out)?;
     assert_eq!(rt;
         out.as_slice(),
         b"# element 1 declaration 20: bad var\n4 --a invalid\n4 --a ! limit\n".as_slice()
