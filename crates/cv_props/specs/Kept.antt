@@ -1,6 +1,6 @@
 -- Which items of a style are kept, and why the others are ignored (CSS Syntax 3, "Consume a list of declarations"; Cascading
 -- Variables 1, "Custom Property Value Syntax" and "Using Cascading Variables").
-use Rattle.std.specs.Prelude.{ℕ, ◌≡◌, Bool, false, nat_lt, if◌then◌else◌, List, [], ◌∷◌, All, Option, Some, None, is_some, Result, Ok, Err}
+use Rattle.std.specs.Prelude.{ℕ, ◌≡◌, Bool, false, nat_lt, if◌then◌else◌, List, [], ◌∷◌, Option, Some, None, is_some, Result, Ok, Err}
 use Rattle.std.specs.List.{flat_map, enumerate_from, list_any}
 use Rattle.cv_spec_text.specs.declared.token.Token.{Token}
 use Rattle.cv_component.specs.Nesting.{depth}

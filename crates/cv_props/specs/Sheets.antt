@@ -1,5 +1,5 @@
 -- The rules of a sheet, and notes on them (CSS Syntax 3, "Parse a stylesheet"; Properties and Values API 1, "The @property Rule").
-use Rattle.std.specs.Prelude.{ℕ, ◌≡◌, Bool, false, List, map, codes, All}
+use Rattle.std.specs.Prelude.{ℕ, ◌≡◌, Bool, false, List, map, codes}
 use Rattle.std.specs.List.{enumerate_from, list_any}
 use Rattle.cv_spec_text.specs.Keywords.{is_word}
 use Rattle.cv_component.specs.declared.sheet.Rule.{Rule}

@@ -40,12 +40,12 @@ pub struct Computed {
 
 impl Computed {
     /// The same values and causes again.
-    pub fn copy(&self, alloc: Global) -> Result<Self, AllocError>
+    pub fn copy(&self) -> Result<Self, AllocError>
         ensures { IfOk result (λ computed. computed ≡ self.now) }
     {
         Ok(Computed {
             values: self.values.copy()?,
-            faults: copied(alloc, self.faults.as_slice())?,
+            faults: copied(self.values.allocator(), self.faults.as_slice())?,
         })
     }
 }

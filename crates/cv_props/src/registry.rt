@@ -7,14 +7,13 @@ ghost use Rattle.cv_props.specs.Sheets.{RegisterNothing, notes_on_rules, registe
 use crate::note::{Note, NotePlace, Why};
 use cv_component::{Rule, rules};
 use cv_spec_text::{Name, Token};
-use sqlite_items::Items;
 use std::alloc::{AllocError, Global};
 use std::marker::Model;
 
 /// The registered custom properties. Contracts see the list of their names.
 #[derive(Drop)]
 pub struct Registry {
-    names: Items<Name>,
+    names: Vec<Name>,
 }
 
 impl Model for Registry {
@@ -22,7 +21,7 @@ impl Model for Registry {
 
     ghost Value = { List (List ℕ) };
 
-    ghost view = { λ registry. registry.names };
+    ghost view = { λ registry. registry.names.items };
 }
 
 impl Registry {
@@ -42,16 +41,16 @@ impl Registry {
     {
         let all = rules(alloc, tokens)?;
         let notes = skipped(alloc, &all)?;
-        let names = Items::new(alloc);
+        let names = Vec::new(alloc);
         Ok((Registry { names }, notes))
     }
 
     /// The same registry again.
-    pub fn copy(&self, alloc: Global) -> Result<Self, AllocError>
+    pub fn copy(&self) -> Result<Self, AllocError>
         ensures { IfOk result (λ registry. registry ≡ self.now) }
     {
         Ok(Registry {
-            names: copied(alloc, self.names.as_slice())?,
+            names: copied(&self.names)?,
         })
     }
 }
@@ -73,10 +72,10 @@ fn is_registration(rule: &Rule) -> bool
     }
 }
 
-fn copied(alloc: Global, names: &[Name]) -> Result<Items<Name>, AllocError>
-    ensures { IfOk result (λ all. all ≡ names.now) }
+fn copied(names: &Vec<Name>) -> Result<Vec<Name>, AllocError>
+    ensures { IfOk result (λ all. all.items ≡ names.now.items) }
 {
-    let mut all = Items::new(alloc);
+    let mut all = Vec::new(*names.allocator());
     for name in names {
         all.push(name.copy()?)?;
     }
