@@ -1,7 +1,7 @@
 -- The fractions of a calculation that is made of numbers alone: its value, and whether each fraction is in bounds that counts in it,
 -- which are its numbers, the value of each part, and the sums and products of the first children of a sum or product. The bounds
 -- are this project's own; the value is that of CSS Values and Units 4, "Mathematical Expressions".
-use Rattle.std.specs.Prelude.{Bool, List, [], ◌∷◌, fold, Option, Some, None, if◌then◌else◌}
+use Rattle.std.specs.Prelude.{List, [], ◌∷◌, fold, Option, Some, None, if◌then◌else◌}
 use Rattle.cv_ratio.specs.Ratio.{Ratio, add, mul, neg, reciprocal, zero_ratio, one_ratio}
 use Rattle.cv_ratio.specs.Order.{lesser, greater}
 use Rattle.cv_frac.specs.Bounded.{in_bounds}
