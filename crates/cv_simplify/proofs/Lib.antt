@@ -1,0 +1,12 @@
+pub mod Bounds
+pub mod Divisors
+pub mod Settled
+pub mod Sizes
+pub mod Folds
+pub mod InRange
+pub mod Numbers
+pub mod ProductRange
+pub mod Ranges
+pub mod Rows
+pub mod Steps
+pub mod SumRange

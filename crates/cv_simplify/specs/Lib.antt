@@ -1,0 +1,6 @@
+pub mod Agrees
+pub mod Checked
+pub mod Counted
+pub mod Number
+pub mod Row
+pub mod Simplified

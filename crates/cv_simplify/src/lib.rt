@@ -1,0 +1,14 @@
+//! Simplification of calculations.
+#![tactic(auto)]
+
+mod calculation;
+pub mod error;
+mod exact;
+mod factors;
+mod joining;
+mod number;
+mod row;
+mod single;
+
+pub use calculation::simplify;
+pub use error::SimpErr;
