@@ -5,7 +5,7 @@ use Rattle.cv_ratio.specs.Ratio.{Ratio}
 use Rattle.cv_frac.specs.declared.error.FracErr.{FracErr}
 use Rattle.cv_frac.specs.declared.error.FracErr.TheVariants.{Range}
 use Rattle.cv_frac.specs.Bounded.{bounded, in_bounds}
-use Rattle.cv_calc.specs.Numbers.{Figure, figure_of, inside, outside}
+use Rattle.cv_calc.specs.Numbers.{figure_of, inside, outside}
 
 pub given_inside : (r v : Ratio) → Ok v ≡ bounded r → inside v ≡ figure_of r
 given_inside r v e = go (in_bounds r) refl e

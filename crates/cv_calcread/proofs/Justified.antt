@@ -1,6 +1,6 @@
 -- What the steps read is in the grammar: each stage stands for derivations of what was read so far.
 use Rattle.std.specs.Prelude.{Bool, true, false, ◌==◌, ◌&&◌, List, [], ◌∷◌, ◌++◌, fold, Option, Some, None, if◌then◌else◌}
-use Rattle.std.proofs.Common.{◌≡◌, refl, sym, ◌∙◌, ap, subst, ℕ, arith}
+use Rattle.std.proofs.Common.{◌≡◌, refl, sym, subst, ℕ, arith}
 use Rattle.std.proofs.lemmas.Bool.Decides.{nat_tests}
 use Rattle.cv_ratio.specs.Ratio.{Ratio}
 use Rattle.cv_spec_text.specs.Characters.{solidus, plus_sign, hyphen, asterisk}
@@ -113,16 +113,22 @@ module _ (number : List ℕ → Ratio) where
   one_argument (after_comma b q) r k = further b q r k
 
   value_read : (whole : List Token) (below : List Level) (l : Level) {a ts rest : List Token} {c : Calc} → Stack whole below a l.opened → ValueAt a ts l → ReadsValue number ts rest c → IsRead whole (with_value c below l) rest
-  value_read whole below l {a} s v r = (a, (s, record {
-    terms_from = v.terms_from;
-    factors_from = v.factors_from;
-    read_to = _;
-    arguments = v.arguments;
-    terms = v.terms;
-    factors = one_factor v.factors v.skips r;
-    skips = none;
-    behind = λ e. cc;
-  }))
+  value_read whole below l {a} s v r = (
+    a,
+    (
+      s,
+      record {
+        terms_from = v.terms_from;
+        factors_from = v.factors_from;
+        read_to = _;
+        arguments = v.arguments;
+        terms = v.terms;
+        factors = one_factor v.factors v.skips r;
+        skips = none;
+        behind = λ e. cc;
+      },
+    ),
+  )
 
   all_arguments : {spaced : Bool} (l : Level) {a rest : List Token} → AfterAt spaced a rest l → ReadsArguments number l.opened a rest (arguments_of l)
   all_arguments l v = one_argument v.arguments (one_term v.terms v.factors) v.skips
@@ -212,28 +218,40 @@ module _ (number : List ℕ → Ratio) where
   over_read whole below l c {a} {ts} e s v = (a, (s, record { terms_from = v.terms_from; factors_from = v.factors_from; value_from = ts; arguments = v.arguments; terms = v.terms; factors = after_over v.factors (subst (λ d. Skips v.read_to (Delim d ∷ ts)) e v.skips); skips = none }))
 
   plus_read : (whole : List Token) (below : List Level) (l : Level) {spaced : Bool} (c : ℕ) {a ts : List Token} → spaced ≡ true → c ≡ plus_sign → Stack whole below a l.opened → AfterAt spaced a (Delim c ∷ ts) l → IsRead whole (Within below (record l { terms = terms_of l; minus = false; factors = []; divides = false }) phase.Gap) ts
-  plus_read whole below l c {a} {ts} b e s v = (a, (s, record {
-    terms_from = v.terms_from;
-    arguments = v.arguments;
-    terms = λ f g. after_plus (one_term v.terms v.factors) (subst (λ us. Skips v.read_to (White ∷ Delim plus_sign ∷ us)) g (subst (λ d. Skips v.read_to (White ∷ Delim d ∷ ts)) e (v.behind b)));
-    factors = λ f. no_factor;
-  }))
+  plus_read whole below l c {a} {ts} b e s v = (
+    a,
+    (
+      s,
+      record {
+        terms_from = v.terms_from;
+        arguments = v.arguments;
+        terms = λ f g. after_plus (one_term v.terms v.factors) (subst (λ us. Skips v.read_to (White ∷ Delim plus_sign ∷ us)) g (subst (λ d. Skips v.read_to (White ∷ Delim d ∷ ts)) e (v.behind b)));
+        factors = λ f. no_factor;
+      },
+    ),
+  )
 
   minus_read : (whole : List Token) (below : List Level) (l : Level) {spaced : Bool} (c : ℕ) {a ts : List Token} → spaced ≡ true → c ≡ hyphen → Stack whole below a l.opened → AfterAt spaced a (Delim c ∷ ts) l → IsRead whole (Within below (record l { terms = terms_of l; minus = true; factors = []; divides = false }) phase.Gap) ts
-  minus_read whole below l c {a} {ts} b e s v = (a, (s, record {
-    terms_from = v.terms_from;
-    arguments = v.arguments;
-    terms = λ f g. after_minus (one_term v.terms v.factors) (subst (λ us. Skips v.read_to (White ∷ Delim hyphen ∷ us)) g (subst (λ d. Skips v.read_to (White ∷ Delim d ∷ ts)) e (v.behind b)));
-    factors = λ f. no_factor;
-  }))
+  minus_read whole below l c {a} {ts} b e s v = (
+    a,
+    (
+      s,
+      record {
+        terms_from = v.terms_from;
+        arguments = v.arguments;
+        terms = λ f g. after_minus (one_term v.terms v.factors) (subst (λ us. Skips v.read_to (White ∷ Delim hyphen ∷ us)) g (subst (λ d. Skips v.read_to (White ∷ Delim d ∷ ts)) e (v.behind b)));
+        factors = λ f. no_factor;
+      },
+    ),
+  )
 
   operated_read : (whole : List Token) (below : List Level) (l : Level) (spaced : Bool) (c : ℕ) {a ts : List Token} → Stack whole below a l.opened → AfterAt spaced a (Delim c ∷ ts) l → IsRead whole (operated spaced c below l) ts
   operated_read whole below l spaced c {a} {ts} s v = go (c == asterisk) (c == solidus) (spaced && c == plus_sign) (spaced && c == hyphen) refl refl refl refl
     where
       go : (i j p m : Bool) → (c == asterisk) ≡ i → (c == solidus) ≡ j → (spaced && c == plus_sign) ≡ p → (spaced && c == hyphen) ≡ m →
           IsRead whole (if i then Within below (record l { divides = false }) phase.Value else if j then Within below (record l { divides = true }) phase.Value
-              else if p then Within below (record l { terms = terms_of l; minus = false; factors = []; divides = false }) phase.Gap
-              else if m then Within below (record l { terms = terms_of l; minus = true; factors = []; divides = false }) phase.Gap else Fault) ts
+          else if p then Within below (record l { terms = terms_of l; minus = false; factors = []; divides = false }) phase.Gap
+          else if m then Within below (record l { terms = terms_of l; minus = true; factors = []; divides = false }) phase.Gap else Fault) ts
       go true j p m ei ej ep em = times_read whole below l c (same_number c asterisk ei) s v
       go false true p m ei ej ep em = over_read whole below l c (same_number c solidus ej) s v
       go false false true m ei ej ep em = plus_read whole below l c (both_true spaced (c == plus_sign) ep).0 (same_number c plus_sign (both_true spaced (c == plus_sign) ep).1) s v

@@ -1,12 +1,10 @@
 -- The search for places, one token after the other.
-use Rattle.std.specs.Prelude.{ℕ, suc, Bool, true, false, ◌+◌, ◌-◌, ◌<◌, ◌≤◌, List, [], ◌∷◌, ◌++◌, length, drop, Option, Some, None, if◌then◌else◌}
+use Rattle.std.specs.Prelude.{ℕ, suc, Bool, true, false, ◌+◌, ◌-◌, ◌<◌, ◌≤◌, List, [], ◌∷◌, ◌++◌, length, drop, Some, None}
 use Rattle.std.proofs.Common.{◌≡◌, get_or, refl, sym, ◌∙◌, ap, arith}
 use Rattle.std.proofs.Math.Seq.{drop-cons}
 use Rattle.std.proofs.lemmas.List.{drop_all}
 use Rattle.cv_spec_text.specs.declared.token.Token.{Token}
-use Rattle.cv_spec_text.specs.declared.token.Token.TheVariants.{White}
 use Rattle.cv_calcread.specs.declared.figure.Mark.{Mark}
-use Rattle.cv_calcread.specs.declared.figure.Mark.TheVariants.{Fine}
 use Rattle.cv_calcread.specs.Answer.{is_wide, wide_place, is_white, white_length, is_solidus, divisor_places, divisor_place}
 
 front : {A : Type 0} (xs : List A) (i : ℕ) (d : A) → i < length xs → drop i xs ≡ get_or xs i d ∷ drop (i + 1) xs

@@ -1,7 +1,7 @@
 -- What the reader answers: the tree, or the first refusal. A list is refused for its shape, then for its types, then for a literal
 -- that is out of range, then for a divisor that is out of range, then for one that is 0. The order is this project's own; that a
 -- divisor which is 0 makes a calculation invalid is of CSS Values and Units 3, "Mathematical Expressions".
-use Rattle.std.specs.Prelude.{◌≡◌, ℕ, ◌+◌, suc, Bool, true, false, ◌==◌, not, List, [], ◌∷◌, Result, Ok, Err, Option, Some, None, if◌then◌else◌}
+use Rattle.std.specs.Prelude.{◌≡◌, ℕ, ◌+◌, Bool, true, false, ◌==◌, not, List, [], ◌∷◌, Result, Ok, Err, Option, Some, None, if◌then◌else◌}
 use Rattle.cv_spec_text.specs.Characters.{solidus}
 use Rattle.cv_spec_text.specs.declared.token.Token.{Token}
 use Rattle.cv_spec_text.specs.declared.token.Token.TheVariants.{Number, Percentage, Dimension, Delim, White}
@@ -9,7 +9,7 @@ use Rattle.cv_calc.specs.declared.unit.NumType.{NumType}
 use Rattle.cv_calc.specs.declared.calc.Calc.{Calc}
 use Rattle.cv_calc.specs.Types.{type_of}
 use Rattle.cv_calc.specs.Linear.{is_linear}
-use Rattle.cv_calcread.specs.Literals.{kept, is_in_range}
+use Rattle.cv_calcread.specs.Literals.{kept, exact_number, is_in_range}
 use Rattle.cv_calcread.specs.Reading.{read}
 use Rattle.cv_calcread.specs.Figures.{evaluated}
 use Rattle.cv_calcread.specs.declared.figure.Mark.{Mark}
@@ -93,9 +93,12 @@ abbrev pub after_tree : List Token → Option Calc → Result Calc CalcErr
 after_tree ts None = Err NoCalc
 after_tree ts (Some c) = typed ts c (type_of c)
 
--- while it isn't known whether all numbers are in range, those that aren't count as 0; the types don't see them
 unfoldable pub answer : List Token → Result Calc CalcErr
-answer ts = after_tree ts (read kept ts)
+answer ts = after_tree ts (read exact_number ts)
+
+-- what the code finds: while it isn't known whether all numbers are in range, those that aren't are kept as 0
+abbrev pub found : List Token → Result Calc CalcErr
+found ts = after_tree ts (read kept ts)
 
 -- a refusal is that of the answer, but for want of memory
 abbrev pub IsRefusal : Result Calc CalcErr → CalcErr → Type 0

@@ -1,7 +1,10 @@
 //! Reads a math function, or refuses it.
 
-ghost use Rattle.std.specs.Prelude.{◌≡◌, IfOk, IfErr, Ok, Some};
+ghost use Rattle.std.specs.Prelude.{◌≡◌, IfOk, IfErr, Ok, Err};
+ghost use Rattle.cv_calc.specs.declared.calc.Calc as trees;
 ghost use Rattle.cv_calcread.specs.Answer as answers;
+ghost use Rattle.cv_calcread.specs.Grammar.{ReadsAs};
+ghost use Rattle.cv_calcread.specs.Literals.{exact_number};
 
 use crate::divisors::evaluate;
 use crate::error::CalcErr;
@@ -49,11 +52,11 @@ fn ranged(alloc: Global, tokens: &[Token], c: Calc, kind: NumType) -> Result<Cal
     }
 }
 
-/// Reads one math function: `calc(1px + 2px)` is the sum of two lengths.
-#[tactic(auto, unfolding(crate::specs::Answer::answer), using(crate::proofs::Refusals::refusals))]
-pub fn read_calc(alloc: Global, tokens: &[Token]) -> Result<Calc, CalcErr>
-    ensures ok { IfOk result (λ c. answers.answer tokens.now ≡ Ok c) }
-    ensures err { IfErr result (answers.IsRefusal (answers.answer tokens.now)) }
+/// The tree of a list whose numbers are kept, or the first refusal.
+#[tactic(auto, using(crate::proofs::Refusals::refusals))]
+fn found(alloc: Global, tokens: &[Token]) -> Result<Calc, CalcErr>
+    ensures ok { IfOk result (λ c. answers.found tokens.now ≡ Ok c) }
+    ensures err { IfErr result (answers.IsRefusal (answers.found tokens.now)) }
 {
     match read_tree(alloc, tokens)? {
         None => Err(CalcErr::NoCalc),
@@ -62,4 +65,16 @@ pub fn read_calc(alloc: Global, tokens: &[Token]) -> Result<Calc, CalcErr>
             Some(kind) => ranged(alloc, tokens, c, kind),
         },
     }
+}
+
+/// Reads one math function, as `calc(1px + 2px)`, which is the sum of two lengths (CSS Values and Units 4, "Mathematical Expressions").
+/// It is refused for its shape or an unknown unit; then for types that don't fit; then for a number that is out of range, or else for
+/// a divisor of numbers alone that meets a fraction out of range; then for such a divisor that is 0. Places count tokens from 0.
+pub fn read_calc(alloc: Global, tokens: &[Token]) -> Result<Calc, CalcErr>
+    ensures ok { IfOk result (λ c. answers.answer tokens.now ≡ Ok c) }
+    ensures err { IfErr result (answers.IsRefusal (answers.answer tokens.now)) }
+    ensures tree { IfOk result (λ c. ReadsAs exact_number tokens.now c) }
+    ensures no_calc { result ≡ Err CalcErr.NoCalc → (c : trees.Calc) → ReadsAs exact_number tokens.now c → ⊥ }
+{
+    found(alloc, tokens)
 }

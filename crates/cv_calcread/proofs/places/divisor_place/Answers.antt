@@ -1,4 +1,4 @@
-use Rattle.std.proofs.Common.{◌∙◌, ◌++◌, sym, ap, arith}
+use Rattle.std.proofs.Common.{◌∙◌, sym, arith}
 use Rattle.cv_calcread.specs.Answer.{is_marked}
 use Rattle.cv_calcread.proofs.Searches.{mark_here, mark_later, marks_none, places_none, below}
 use Rattle.cv_calcread.proofs.places.divisor_place.Goals as goal

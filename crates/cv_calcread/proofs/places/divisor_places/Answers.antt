@@ -1,4 +1,4 @@
-use Rattle.std.proofs.Common.{◌∙◌, ◌++◌, ◌+◌, sym, ap, arith}
+use Rattle.std.proofs.Common.{◌∙◌, ◌++◌, ◌+◌, sym, ap}
 use Rattle.cv_calcread.specs.Answer.{is_solidus}
 use Rattle.cv_calcread.proofs.Searches.{divisor_here, divisor_later, divisors_none, places_more, places_end}
 use Rattle.cv_calcread.proofs.places.divisor_places.Goals as goal

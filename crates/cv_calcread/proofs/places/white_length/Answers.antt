@@ -1,4 +1,4 @@
-use Rattle.std.proofs.Common.{◌∙◌, ◌++◌, sym, ap, arith}
+use Rattle.std.proofs.Common.{◌∙◌, sym, ap, arith}
 use Rattle.cv_calcread.specs.Answer.{is_white}
 use Rattle.cv_calcread.proofs.Searches.{white_here, white_later, white_none, white_end, white_more, white_last}
 use Rattle.cv_calcread.proofs.places.white_length.Goals as goal

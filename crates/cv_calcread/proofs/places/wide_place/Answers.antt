@@ -1,4 +1,4 @@
-use Rattle.std.proofs.Common.{◌∙◌, ◌++◌, sym, ap, arith}
+use Rattle.std.proofs.Common.{◌∙◌, sym, ap}
 use Rattle.cv_calcread.specs.Answer.{is_wide}
 use Rattle.cv_calcread.proofs.Searches.{wide_here, wide_later, wide_none}
 use Rattle.cv_calcread.proofs.places.wide_place.Goals as goal
