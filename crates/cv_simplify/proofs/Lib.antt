@@ -10,3 +10,4 @@ pub mod Ranges
 pub mod Rows
 pub mod Steps
 pub mod SumRange
+pub mod Texts

@@ -4,3 +4,4 @@ pub mod Counted
 pub mod Number
 pub mod Row
 pub mod Simplified
+pub mod Text
