@@ -1,9 +1,11 @@
 pub mod Bounds
+pub mod Canonical
 pub mod Divisors
 pub mod Settled
 pub mod Sizes
 pub mod Folds
 pub mod InRange
+pub mod Least
 pub mod Numbers
 pub mod ProductRange
 pub mod Ranges

@@ -1,4 +1,5 @@
 pub mod Agrees
+pub mod Canonical
 pub mod Checked
 pub mod Counted
 pub mod Number
