@@ -9,6 +9,10 @@ mod joining;
 mod number;
 mod row;
 mod single;
+#[cfg(test)]
+mod tests;
+mod text;
 
 pub use calculation::simplify;
 pub use error::SimpErr;
+pub use text::calc_tokens;
