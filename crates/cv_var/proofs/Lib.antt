@@ -6,3 +6,5 @@ pub mod PartSteps
 pub mod Lending
 pub mod Naming
 pub mod SegmentSteps
+pub mod PiecesRead
+pub mod Ends

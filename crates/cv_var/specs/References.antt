@@ -1,10 +1,10 @@
 -- References, `var()`, in a list of tokens (Cascading Variables 1, "Using Cascading Variables: the var() notation").
-use Rattle.std.specs.Prelude.{◌≡◌, ℕ, ◌+◌, ◌-◌, Bool, false, ◌&&◌, ◌||◌, if◌then◌else◌, List, [], ◌∷◌, length, take, drop, codes, Option, Some, None, option_map, is_none}
+use Rattle.std.specs.Prelude.{◌≡◌, ℕ, ◌+◌, ◌-◌, Bool, false, ◌&&◌, ◌||◌, if◌then◌else◌, List, [], ◌∷◌, length, take, drop, codes, Option, Some, None, Ok, option_map, is_none}
 use Rattle.std.proofs.Common.{suc, zero}
 use Rattle.cv_spec_text.specs.Keywords.{is_custom, is_word}
 use Rattle.cv_spec_text.specs.declared.token.Token.{Token}
 use Rattle.cv_spec_text.specs.declared.token.Token.TheVariants.{Ident, Function, Comma}
-use Rattle.cv_spec_element.specs.Pieces.{Pieces, finish, token, reference, reference_or}
+use Rattle.cv_spec_element.specs.Pieces.{Pieces, finish, token, reference, reference_or, sub}
 use Rattle.cv_component.specs.Blocks.{matching}
 use Rattle.cv_component.specs.TopLevel.{trim_front, trim_end}
 use Rattle.cv_var.specs.Values.{is_value}
@@ -88,7 +88,8 @@ pieces_within (suc most) (t ∷ rest) =
 unfoldable pub pieces_of : List Token → Pieces (List ℕ) Token
 pieces_of tokens = pieces_within (length tokens) tokens
 
--- what the pieces of a list are, with no bound on its length
+-- what the pieces of a list are, with no bound on its length; a list without `var()` is what substitution makes of it
 pub record PiecesAreRead : Type 0 where
   pub none : pieces_of [] ≡ finish
   pub first : (t : Token) (rest : List Token) → pieces_of (t ∷ rest) ≡ first_piece (reference_at (t ∷ rest)) t pieces_of rest (drop (function_size (t ∷ rest)) (t ∷ rest))
+  pub plain : (tokens : List Token) → has_var tokens ≡ false → (values : List ℕ → Option (List Token)) → sub values (pieces_of tokens) ≡ Ok tokens

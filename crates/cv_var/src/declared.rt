@@ -1,10 +1,10 @@
 // A checked list.
-ghost use Rattle.std.specs.Prelude.{◌≡◌, ◌⊎◌, ◌↔◌, ◌<◌, ℕ, List, All, Contains, bytes_eq, IfOk, IfErr, OnOk, IfSome, IsErrOf, Err, length, option_map, slice_get};
+ghost use Rattle.std.specs.Prelude.{◌≡◌, ◌⊎◌, ◌↔◌, ◌<◌, ◌^◌, ℕ, List, All, Contains, bytes_eq, IfOk, IfErr, OnOk, IfSome, IsErrOf, Err, length, option_map, slice_get};
 ghost use Rattle.std.specs.List.{IsDistinct};
 ghost use Rattle.cv_component.specs.Nesting.{depth};
 ghost use Rattle.cv_spec_text.specs.Splits.{IsSpelt};
 ghost use Rattle.cv_var.specs.Checked.{IsChecked, IsCause};
-ghost use Rattle.cv_var.specs.Flat.{flat, flattened, IsSpeltPiece};
+ghost use Rattle.cv_var.specs.Flat.{flat, flattened, EndsWithin, IsSpeltPiece};
 ghost use Rattle.cv_spec_element.specs.Pieces.{RefersTo};
 ghost use Rattle.cv_var.specs.Names.{names_of, firsts};
 ghost use Rattle.cv_var.specs.References.{pieces_of, has_var};
@@ -55,7 +55,8 @@ fn copied(alloc: Global, tokens: &[Token]) -> Result<Vec<Token>, OutOfMemory>
     Ok(all)
 }
 
-/// Checks a list. The refusals, in this order:
+/// Checks a list (Cascading Variables 1, "Custom Property Value Syntax" and "Using Cascading Variables: the var()
+/// notation"). The empty list is a declaration value. The refusals, in this order:
 ///
 /// - [`VarErr::TooDeep`] exactly where it is nested deeper than 128;
 /// - [`VarErr::BadValue`] with the place of the first token that may not stand in a declaration value;
@@ -104,7 +105,9 @@ impl Declared {
     /// The part of this number. Behind a reference come the parts of its fallback.
     pub fn part(&self, number: usize) -> Option<Part<'_>>
         ensures part { option_map flat result ≡ slice_get (flattened (pieces_of self.now)) number }
+        ensures within { IfSome result (λ part. EndsWithin (length (flattened (pieces_of self.now))) number (flat part)) }
         ensures spelt { IfSome result (λ part. IsSpeltPiece (flat part)) }
+        ensures fits { length (flattened (pieces_of self.now)) < 2 ^ 64 }
     {
         match at(&self.parts, number) {
             Some(place) => lent(self.list.tokens(), *place),

@@ -3,6 +3,7 @@
 
 mod declared;
 mod flat;
+mod laws;
 mod names;
 mod parts;
 mod place;
@@ -13,5 +14,9 @@ mod value;
 
 pub use declared::{Declared, check};
 pub use flat::Part;
+pub use laws::pieces_are_read;
 pub use refusal::VarErr;
 pub use segment::Segment;
+
+#[cfg(test)]
+mod tests;

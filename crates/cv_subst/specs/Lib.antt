@@ -1,0 +1,4 @@
+pub mod Values
+pub mod Limited
+pub mod Flat
+pub mod Refusal
