@@ -7,7 +7,8 @@ use cv_spec_text::Name;
 use sqlite_items::Items;
 use std::alloc::{AllocError, Global};
 
-/// Why a declared property is invalid at computed-value time (Cascading Variables 1, "Invalid Variables").
+/// Why a declared property is invalid at computed-value time (Cascading Variables 1, "Invalid Variables",
+/// "Resolving Dependency Cycles" and "Safely Handling Overly-Long Variables").
 #[derive(Debug, Drop)]
 pub enum Cause {
     /// It depends on itself.
