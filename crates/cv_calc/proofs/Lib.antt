@@ -6,3 +6,5 @@ pub mod Powers
 pub mod Shapes
 pub mod Units
 pub mod Values
+pub mod Chosen
+pub mod Told

@@ -1,4 +1,5 @@
 pub mod Factor
+pub mod Figures
 pub mod Linear
 pub mod Names
 pub mod Numbers

@@ -3,6 +3,7 @@
 
 pub mod calc;
 pub mod context;
+mod laws;
 mod names;
 mod product;
 mod shape;
@@ -13,6 +14,7 @@ pub mod unit;
 
 pub use calc::Calc;
 pub use context::{Basis, Context, to_canonical};
+pub use laws::figures_are_values;
 pub use names::{unit_name, unit_named};
 pub use shape::{is_linear, type_of};
 pub use unit::{Base, NumType, Unit};
