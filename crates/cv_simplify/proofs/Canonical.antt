@@ -227,15 +227,15 @@ module _ (x : Context) where
   pub simp_canonical : (c : Calc) → holds_canonical (simp x c) ≡ true
   unfolding simp
   simp_canonical = by_cases IsCanonical (record {
-      num = λ v u. ap holds_canonical (fold-Num (simp_step x) v u) ∙ number_canonical x v u;
-      sum = λ cs h. ap holds_canonical (fold-Sum (simp_step x) cs) ∙ one_or_canonical tree.Sum canonical-Sum _ (sum_canonical [] (map (simp x) cs) refl (every_canonical cs h));
-      product = λ cs h. ap holds_canonical (fold-Product (simp_step x) cs) ∙ product_as_canonical _ (products_canonical [] (map (simp x) cs) refl (every_canonical cs h));
-      negate = λ c h. ap holds_canonical (fold-Negate (simp_step x) c) ∙ negated_canonical (simp x c) (out-Calc (simp x c)) (roll-out-Calc (simp x c)) h;
-      invert = λ c h. ap holds_canonical (fold-Invert (simp_step x) c) ∙ inverted_canonical (simp x c) (out-Calc (simp x c)) (roll-out-Calc (simp x c)) h;
-      min = λ cs h. ap holds_canonical (fold-Min (simp_step x) cs)
-          ∙ one_or_canonical tree.Min canonical-Min _ (rows_canonical (may_compare (compares_percent x.basis)) lesser [] (map (simp x) cs) refl (every_canonical cs h));
-      max = λ cs h. ap holds_canonical (fold-Max (simp_step x) cs)
-          ∙ one_or_canonical tree.Max canonical-Max _ (rows_canonical (may_compare (compares_percent x.basis)) greater [] (map (simp x) cs) refl (every_canonical cs h));
-      clamp = λ a b c h k l. ap holds_canonical (fold-Clamp (simp_step x) a b c)
-          ∙ clamped_canonical (compares_percent x.basis) (simp x a) (simp x b) (simp x c) (number_clamped (compares_percent x.basis) (simp x a) (simp x b) (simp x c)) refl h k l;
-    })
+    num = λ v u. ap holds_canonical (fold-Num (simp_step x) v u) ∙ number_canonical x v u;
+    sum = λ cs h. ap holds_canonical (fold-Sum (simp_step x) cs) ∙ one_or_canonical tree.Sum canonical-Sum _ (sum_canonical [] (map (simp x) cs) refl (every_canonical cs h));
+    product = λ cs h. ap holds_canonical (fold-Product (simp_step x) cs) ∙ product_as_canonical _ (products_canonical [] (map (simp x) cs) refl (every_canonical cs h));
+    negate = λ c h. ap holds_canonical (fold-Negate (simp_step x) c) ∙ negated_canonical (simp x c) (out-Calc (simp x c)) (roll-out-Calc (simp x c)) h;
+    invert = λ c h. ap holds_canonical (fold-Invert (simp_step x) c) ∙ inverted_canonical (simp x c) (out-Calc (simp x c)) (roll-out-Calc (simp x c)) h;
+    min = λ cs h. ap holds_canonical (fold-Min (simp_step x) cs)
+        ∙ one_or_canonical tree.Min canonical-Min _ (rows_canonical (may_compare (compares_percent x.basis)) lesser [] (map (simp x) cs) refl (every_canonical cs h));
+    max = λ cs h. ap holds_canonical (fold-Max (simp_step x) cs)
+        ∙ one_or_canonical tree.Max canonical-Max _ (rows_canonical (may_compare (compares_percent x.basis)) greater [] (map (simp x) cs) refl (every_canonical cs h));
+    clamp = λ a b c h k l. ap holds_canonical (fold-Clamp (simp_step x) a b c)
+        ∙ clamped_canonical (compares_percent x.basis) (simp x a) (simp x b) (simp x c) (number_clamped (compares_percent x.basis) (simp x a) (simp x b) (simp x c)) refl h k l;
+  })

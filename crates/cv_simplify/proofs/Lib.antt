@@ -5,6 +5,7 @@ pub mod Settled
 pub mod Sizes
 pub mod Folds
 pub mod InRange
+pub mod Kept
 pub mod Least
 pub mod Numbers
 pub mod ProductRange

@@ -55,7 +55,7 @@ number_unit (Min cs) v h = cc
 number_unit (Max cs) v h = cc
 number_unit (Clamp a b c) v h = cc
 
-number_is : (d : Calc) (v : Ratio) → number_of d ≡ Some v → d ≡ tree.Num v Number
+pub number_is : (d : Calc) (v : Ratio) → number_of d ≡ Some v → d ≡ tree.Num v Number
 number_is d v h = sym (roll-out-Calc d) ∙ ap roll-Calc (number_unit (out-Calc d) v h) ∙ rolls-Num v Number
 
 -- numbers of two units, or of one that isn't that of plain numbers, aren't joined

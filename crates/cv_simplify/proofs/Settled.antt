@@ -391,14 +391,14 @@ module _ (x : Context) where
   pub simp_settled : (c : Calc) → settled (simp x c) ≡ true
   unfolding simp
   simp_settled = by_cases IsSettled (record {
-      num = λ v u. ap settled (fold-Num (simp_step x) v u) ∙ number_settled x v u;
-      sum = λ cs h. ap settled (fold-Sum (simp_step x) cs) ∙ summed_settled (map (simp x) cs) (all_of cs h);
-      product = λ cs h. ap settled (fold-Product (simp_step x) cs) ∙ multiplied_settled (map (simp x) cs) (all_of cs h);
-      negate = λ c h. ap settled (fold-Negate (simp_step x) c) ∙ negated_settled_as (simp x c) (out-Calc (simp x c)) (roll-out-Calc (simp x c)) h;
-      invert = λ c h. ap settled (fold-Invert (simp_step x) c) ∙ inverted_settled_as (simp x c) (out-Calc (simp x c)) (roll-out-Calc (simp x c)) h;
-      min = λ cs h. ap settled (fold-Min (simp_step x) cs)
-          ∙ one_or_settled tree.Min settled-Min _ (settled_rows (may_compare (compares_percent x.basis)) lesser [] (map (simp x) cs) refl (all_of cs h));
-      max = λ cs h. ap settled (fold-Max (simp_step x) cs)
-          ∙ one_or_settled tree.Max settled-Max _ (settled_rows (may_compare (compares_percent x.basis)) greater [] (map (simp x) cs) refl (all_of cs h));
-      clamp = λ a b c h k l. ap settled (fold-Clamp (simp_step x) a b c) ∙ clamped_settled _ (simp x a) (simp x b) (simp x c) h k l;
-    })
+    num = λ v u. ap settled (fold-Num (simp_step x) v u) ∙ number_settled x v u;
+    sum = λ cs h. ap settled (fold-Sum (simp_step x) cs) ∙ summed_settled (map (simp x) cs) (all_of cs h);
+    product = λ cs h. ap settled (fold-Product (simp_step x) cs) ∙ multiplied_settled (map (simp x) cs) (all_of cs h);
+    negate = λ c h. ap settled (fold-Negate (simp_step x) c) ∙ negated_settled_as (simp x c) (out-Calc (simp x c)) (roll-out-Calc (simp x c)) h;
+    invert = λ c h. ap settled (fold-Invert (simp_step x) c) ∙ inverted_settled_as (simp x c) (out-Calc (simp x c)) (roll-out-Calc (simp x c)) h;
+    min = λ cs h. ap settled (fold-Min (simp_step x) cs)
+        ∙ one_or_settled tree.Min settled-Min _ (settled_rows (may_compare (compares_percent x.basis)) lesser [] (map (simp x) cs) refl (all_of cs h));
+    max = λ cs h. ap settled (fold-Max (simp_step x) cs)
+        ∙ one_or_settled tree.Max settled-Max _ (settled_rows (may_compare (compares_percent x.basis)) greater [] (map (simp x) cs) refl (all_of cs h));
+    clamp = λ a b c h k l. ap settled (fold-Clamp (simp_step x) a b c) ∙ clamped_settled _ (simp x a) (simp x b) (simp x c) h k l;
+  })

@@ -7,8 +7,8 @@ use Rattle.cv_calc.specs.declared.unit.Unit as units
 use Rattle.cv_calc.specs.declared.calc.Calc.{Calc}
 use Rattle.cv_calc.specs.declared.calc.Calc.TheVariants.{Num, Sum, Product, Negate, Invert, Min, Max, Clamp}
 use Rattle.cv_calc.specs.Tree.{fold-Num, fold-Sum, fold-Product, fold-Negate, fold-Invert, fold-Min, fold-Max, fold-Clamp}
-use Rattle.cv_simplify.specs.declared.text.Place.TheVariants.{Operand, Whole, Added, Multiplied, Argument}
-use Rattle.cv_simplify.specs.declared.text.Place.{Place}
+use Rattle.cv_simplify.specs.declared.place.Place.TheVariants.{Operand, Whole, Added, Multiplied, Argument}
+use Rattle.cv_simplify.specs.declared.place.Place.{Place}
 use Rattle.cv_simplify.specs.Text.{Written, written, written_step, unit_rank, last_rank, prefix, placed, number_placed, negative_placed, inverse_placed, call, line_of, arguments_of, no_line, with_ranked, ranked}
 
 pub written-Num : (v : Ratio) (u : units.Unit) → written (Num v u) ≡ record { rank = unit_rank u; at_place = λ place. number_placed place v u }

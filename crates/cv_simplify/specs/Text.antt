@@ -15,8 +15,8 @@ use Rattle.cv_calc.specs.declared.calc.Calc.TheOpen.{Calc-F, Num, Sum, Product, 
 use Rattle.cv_calc.specs.declared.calc.Calc.TheViews.{out-Calc}
 use Rattle.cv_calc.specs.declared.calc.Calc.TheFolds.{fold-Calc}
 use Rattle.cv_calc.specs.Names.{unit_text}
-use Rattle.cv_simplify.specs.declared.text.Place.{Place}
-use Rattle.cv_simplify.specs.declared.text.Place.TheVariants.{Operand, Whole, Added, Multiplied, Argument}
+use Rattle.cv_simplify.specs.declared.place.Place.{Place}
+use Rattle.cv_simplify.specs.declared.place.Place.TheVariants.{Operand, Whole, Added, Multiplied, Argument}
 
 -- ---- punctuation
 

@@ -40,7 +40,11 @@ pub(crate) fn compares_percent(x: &Context) -> bool
 pub(crate) fn may_compare(percents: bool, unit: Unit) -> bool
     ensures { result ≡ may_compare_in percents unit }
 {
-    if percents { true } else { !(unit == Unit::Percent) }
+    if percents {
+        true
+    } else {
+        !(unit == Unit::Percent)
+    }
 }
 
 /// Whether numbers of a unit are joined.

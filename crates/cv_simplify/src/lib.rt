@@ -7,11 +7,13 @@ mod exact;
 mod factors;
 mod joining;
 mod number;
+mod place;
 mod row;
 mod single;
 #[cfg(test)]
 mod tests;
 mod text;
+mod tokens;
 
 pub use calculation::simplify;
 pub use error::SimpErr;

@@ -51,8 +51,18 @@ fn tree(alloc: Global, row: usize) -> Result<Calc, AllocError> {
             Calc::Sum(list(alloc, number(1, px), negative(alloc, least)?)?)
         }
         6 => Calc::Sum(list(alloc, number(1, Unit::Cm), number(5, percent))?),
-        7 => Calc::Sum(three(alloc, number(LARGEST, px), number(1, px), negative(alloc, number(1, px))?)?),
-        8 => Calc::Sum(three(alloc, number(1, px), negative(alloc, number(1, px))?, number(LARGEST, px))?),
+        7 => Calc::Sum(three(
+            alloc,
+            number(LARGEST, px),
+            number(1, px),
+            negative(alloc, number(1, px))?,
+        )?),
+        8 => Calc::Sum(three(
+            alloc,
+            number(1, px),
+            negative(alloc, number(1, px))?,
+            number(LARGEST, px),
+        )?),
         9 => Calc::Sum(list(alloc, number(1, px), number(2, px))?),
         _ => Calc::Clamp(
             Boxed::new(alloc, number(1, px))?,
@@ -80,7 +90,11 @@ const EXPECTED: [&str; 11] = [
 fn rows_of_the_table(rt: HostRuntime) -> Result<(), Fail> {
     let alloc = rt.alloc();
     for row in 0..11 {
-        let basis = if row == 3 { Basis::Of(Frac::whole(100)) } else { Basis::Length };
+        let basis = if row == 3 {
+            Basis::Of(Frac::whole(100))
+        } else {
+            Basis::Length
+        };
         let x = Context {
             em: Frac::whole(16),
             rem: Frac::whole(16),

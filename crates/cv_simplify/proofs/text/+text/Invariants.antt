@@ -1,6 +1,6 @@
 use Rattle.std.specs.Prelude.{fold, map}
 use Rattle.std.proofs.Common.{◌≡◌, take}
-use Rattle.cv_simplify.specs.declared.text.Place.TheVariants.{Whole, Argument}
+use Rattle.cv_simplify.specs.declared.place.Place.TheVariants.{Whole, Argument}
 use Rattle.cv_simplify.specs.Text.{written, no_line, with_child, with_rank, ranked}
 use Rattle.cv_simplify.proofs.text.+text.Given as goal
 
