@@ -1,6 +1,7 @@
 pub mod Factor
 pub mod Linear
 pub mod Names
+pub mod Numbers
 pub mod Products
 pub mod Tree
 pub mod Types

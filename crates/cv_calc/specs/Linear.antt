@@ -96,7 +96,3 @@ has_type (Some t) = true
 -- a calculation that has a type and whose products and divisors are as they have to be
 unfoldable pub is_linear : Calc → Bool
 is_linear c = has_type (shape c).kind && (shape c).fits
-
--- a calculation that holds numbers alone
-unfoldable pub holds_numbers : Calc → Bool
-holds_numbers c = (shape c).numbers

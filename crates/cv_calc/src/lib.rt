@@ -14,5 +14,5 @@ pub mod unit;
 pub use calc::Calc;
 pub use context::{Basis, Context, to_canonical};
 pub use names::{unit_name, unit_named};
-pub use shape::{holds_numbers, is_linear, type_of};
+pub use shape::{is_linear, type_of};
 pub use unit::{Base, NumType, Unit};

@@ -137,11 +137,3 @@ pub fn is_linear(c: &Calc) -> bool
     let found = shape_of(c);
     found.kind.is_some() && found.fits
 }
-
-/// Whether a calculation holds numbers alone.
-#[tactic(auto, unfolding(crate::specs::Linear::holds_numbers))]
-pub fn holds_numbers(c: &Calc) -> bool
-    ensures { result ≡ linear.holds_numbers c.now }
-{
-    shape_of(c).numbers
-}

@@ -1,3 +1,5 @@
+pub mod Answer
+pub mod Figures
 pub mod Literals
 pub mod Reading
 pub mod Grammar

@@ -4,6 +4,8 @@
 mod cycles;
 mod order;
 mod stacks;
+#[cfg(test)]
+mod tests;
 mod walk;
 
 pub use cycles::{cyclic, ordered};

@@ -1,8 +1,8 @@
 -- A table of ASCII words, by a test that computes.
-use Rattle.std.proofs.Common.{◌≡◌, ◌<◌, ℕ, zero, suc, Bool, true, false, ◌&&◌, List, [], ◌∷◌, length, refl, arith}
-use Rattle.std.specs.Prelude.{nat_lt, slice_index, IsAscii}
+use Rattle.std.proofs.Common.{◌≡◌, ◌<◌, ℕ, zero, suc, Bool, true, false, ◌&&◌, List, [], ◌∷◌, refl, arith}
+use Rattle.std.specs.Prelude.{nat_lt, IsAscii}
 use Rattle.std.specs.Borrow.{Bor}
-use Rattle.std.specs.List.{All, list_all, slice_index_or}
+use Rattle.std.specs.List.{All, list_all}
 use Rattle.std.proofs.lemmas.Bool.Decides.{nat_tests}
 
 abbrev pub are_ascii : List (Bor (List ℕ)) → Bool

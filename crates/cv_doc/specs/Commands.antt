@@ -1,5 +1,5 @@
 -- The commands of a session, as a document has them. They are this project's own.
-use Rattle.std.specs.Prelude.{ℕ, ◌++◌, ◌^◌, ◌-◌, List, [], Option, None, Some, Result, Ok, Err, codes, bytes_eq, if◌then◌else◌, option_and_then, option_map}
+use Rattle.std.specs.Prelude.{ℕ, ◌++◌, List, [], Option, None, Some, Result, Ok, Err, codes, bytes_eq, if◌then◌else◌, option_and_then, option_map}
 use Rattle.std.specs.Option.{option_map_or}
 use Rattle.std.specs.Fmt.{decimal}
 use Rattle.serde_json.specs.Data.{Data, Items}

@@ -4,3 +4,5 @@ pub mod Members
 pub mod PropertyNames
 pub mod Commands
 pub mod Reading
+pub mod Kept
+pub mod Walks

@@ -1,5 +1,5 @@
 -- The viewport, the elements and the names of a document.
-use Rattle.std.specs.Prelude.{ℕ, suc, ◌==◌, ◌||◌, ◌++◌, List, [], Option, None, Some, Bool, is_some, Result, Ok, Err, codes, if◌then◌else◌, nat_le, nat_lt, option_and_then, option_map}
+use Rattle.std.specs.Prelude.{ℕ, suc, ◌==◌, ◌||◌, ◌++◌, List, [], Option, None, Some, Bool, is_some, Result, Ok, Err, codes, if◌then◌else◌, nat_le, nat_lt, option_and_then}
 use Rattle.std.specs.Option.{option_map_or}
 use Rattle.std.specs.Fmt.{decimal}
 use Rattle.serde_json.specs.Data.{Data, Items, no_items, item}

@@ -1,5 +1,7 @@
 // The document of bytes.
+ghost use Rattle.std.specs.Prelude.{IfOk};
 ghost use Rattle.serde_json.specs.View.{view};
+ghost use Rattle.cv_doc.specs.Kept.{IsSound};
 ghost use Rattle.cv_doc.specs.Reading.{document_in, document_of, members_in, shape_of};
 ghost use Rattle.cv_doc.specs.Refusals.{Answers};
 
@@ -35,8 +37,13 @@ pub struct Document {
 impl Document {
     /// The document that the bytes hold, or the first refusal: of the JSON, and then of the members `viewport`, `sheet`,
     /// `elements`, `show` and `commands` in this order. Other members are ignored.
+    ///
+    /// ```text
+    /// {"elements": [{"parent": null, "style": "--a: 1px"}, {"parent": 0}], "show": ["--a"]}
+    /// ```
     pub fn of_bytes(alloc: Global, bytes: &[u8]) -> Result<Document, DocErr>
-        ensures { Answers shape_of (document_of bytes.now) result }
+        ensures exact { Answers shape_of (document_of bytes.now) result }
+        ensures sound { IfOk result (λ document. IsSound (shape_of document)) }
     {
         match read_json(alloc, bytes)? {
             Some(value) => document_of_value(alloc, &value),

@@ -14,8 +14,10 @@ mod show;
 mod tests;
 mod value;
 mod viewport;
+mod walking;
 
 pub use command::Command;
 pub use document::Document;
 pub use elements::Elem;
 pub use refusal::{BadDoc, DocErr, What};
+pub use walking::{Step, walk};

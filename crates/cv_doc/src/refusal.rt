@@ -17,7 +17,7 @@ pub enum What {
 }
 
 /// What is wrong with a document.
-#[derive(Debug, Drop)]
+#[derive(Debug, PartialEq, Eq, Drop)]
 pub enum BadDoc {
     /// The bytes are no UTF-8, are no JSON, or are nested deeper than 127.
     NotJson,
@@ -30,7 +30,7 @@ pub enum BadDoc {
 }
 
 /// Why there is no document.
-#[derive(Debug, Drop)]
+#[derive(Debug, PartialEq, Eq, Drop)]
 pub enum DocErr {
     Bad(BadDoc),
     /// A part has more items than a document may have.

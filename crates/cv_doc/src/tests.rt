@@ -1,4 +1,8 @@
-use crate::{BadDoc, Command, DocErr, Document};
+ghost use Rattle.std.specs.Prelude.{IfOk, ⊤};
+ghost use Rattle.cv_doc.specs.Kept.{IsSound};
+ghost use Rattle.cv_doc.specs.Reading.{shape_of};
+
+use crate::{BadDoc, Command, DocErr, Document, Step, walk};
 use std::alloc::{AllocError, Global};
 use std::test::Fail;
 
@@ -161,15 +165,22 @@ fn counts_before_it_looks(rt: HostRuntime) -> Result<(), Fail> {
     Ok(())
 }
 
+fn read(alloc: Global, text: &str) -> Result<Document, &'static str>
+    ensures { IfOk result (λ document. IsSound (shape_of document)) }
+{
+    match Document::of_bytes(alloc, text.as_bytes()) {
+        Ok(document) => Ok(document),
+        Err(_) => Err("a document"),
+    }
+}
+
 static WHOLE: &str = r#"{"more":1,"viewport":{"width":1000,"height":800,"depth":1},"sheet":"a {}",
     "elements":[{"parent":null},{"style":"--a: 1","parent":0}],"show":["Width","--a"],
     "commands":[{"do":"set","element":1,"name":"--a","value":"2px","more":[]},{"do":"unwatch","watcher":0}]}"#;
 
 #[test]
 fn reads_a_document(rt: HostRuntime) -> Result<(), Fail> {
-    let document = Document::of_bytes(rt.alloc(), WHOLE.as_bytes())
-        .ok()
-        .ok_or("a document")?;
+    let document = read(rt.alloc(), WHOLE)?;
     assert_eq!(rt; (document.width, document.height), (1000, 800));
     assert_eq!(rt; document.sheet.text(), "a {}");
     assert_eq!(rt; document.elements.len(), 2);
@@ -177,9 +188,55 @@ fn reads_a_document(rt: HostRuntime) -> Result<(), Fail> {
     assert_eq!(rt; document.elements[1].parent, Some(0));
     assert_eq!(rt; document.elements[1].style.text(), "--a: 1");
     let show = document.show.ok_or("names")?;
+    assert_eq!(rt; show.len(), 2);
     assert_eq!(rt; show[0].text(), "Width");
     assert_eq!(rt; document.commands.len(), 2);
     assert!(rt; matches!(&document.commands[0], Command::Set { element: 1, .. }));
     assert!(rt; matches!(&document.commands[1], Command::Unwatch { watcher: 0 }));
+    Ok(())
+}
+
+// Adds up the indices of the elements that were stepped, and stops after the sum.
+#[derive(Drop)]
+struct Sum {
+    of_indices: u64,
+    most: u64,
+}
+
+impl Step for Sum {
+    type Stop = u32;
+
+    ghost ready = { λ _ _ _. ⊤ };
+
+    ghost gives = { λ _ _ _ _ _. ⊤ };
+
+    fn step(&mut self, index: u32, _parent: Option<u32>) -> Result<(), u32> {
+        self.of_indices = self.of_indices.saturating_add(index as u64);
+        if self.of_indices > self.most {
+            Err(index)
+        } else {
+            Ok(())
+        }
+    }
+}
+
+static FIVE: &str =
+    r#"{"elements":[{"parent":null},{"parent":0},{"parent":0},{"parent":1},{"parent":1}]}"#;
+
+#[test]
+fn walks_to_the_first_stop(rt: HostRuntime) -> Result<(), Fail> {
+    let document = read(rt.alloc(), FIVE)?;
+    let mut all = Sum {
+        of_indices: 0,
+        most: 10,
+    };
+    assert_eq!(rt; walk(&document.elements, &mut all), Ok(()));
+    assert_eq!(rt; all.of_indices, 10);
+    let mut some = Sum {
+        of_indices: 0,
+        most: 5,
+    };
+    assert_eq!(rt; walk(&document.elements, &mut some), Err(3));
+    assert_eq!(rt; some.of_indices, 6);
     Ok(())
 }

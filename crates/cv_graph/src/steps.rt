@@ -1,5 +1,5 @@
 use std::marker::Model;
-use std::sync::ledger::{Book, Ledger, Share};
+use std::sync::ledger::{Blank, Book, Ledger, Share};
 
 /// How many steps were taken. It takes no bytes at run time, contracts see the count, and only `tick` changes it.
 #[derive(Drop)]
@@ -21,12 +21,15 @@ impl<L: Ledger> Model for Steps<L> {
 impl<L: Ledger> Steps<L> {
     ghost use Rattle.std.specs.Prelude.{◌≡◌, ◌+◌, ◌<◌};
 
-    /// A counter that stands at 0, out of a ledger that nothing was booked in.
-    pub fn new(book: Book<L>, share: Share<L>) -> Self
-        requires total { book.total ≡ 0 }
-        requires parts { 0 < share.parts }
+    /// A counter that stands at 0. A caller of a function over `L` names the ledger by the blank that it hands in:
+    /// `Blank::new(1)`, at `Brand` for `L`.
+    pub fn new(blank: Blank) -> Self
+        requires name { blank.name ≡ L.name }
+        requires parts { blank.parts ≡ L.parts }
+        requires some { 0 < blank.parts }
         ensures { result ≡ 0 }
     {
+        let (book, share) = blank.open::<L>();
         Steps { book, share }
     }
 

@@ -2,14 +2,15 @@
 use Rattle.std.proofs.Common.{◌≡◌, Bool, true, false, cond, not, ◌&&◌, ◌||◌, List, [], ◌∷◌, ◌++◌, filter, filter_map, Option, Some, None, is_some, refl, sym, ap, ◌∙◌, subst, append-nil, true≢false}
 use Rattle.std.specs.Prelude.{option_map, if◌then◌else◌}
 use Rattle.std.specs.List.{list_any, cons_option}
-use Rattle.std.specs.Map.{lookup}
+use Rattle.std.specs.Map.{keys_of, lookup}
 use Rattle.std.proofs.lemmas.List.Elements.{filter-append, filter_map-append}
 use Rattle.indexmap.specs.IndexMap.{insert_entry}
 use Rattle.cv_props.specs.declared.decls.Decl.{Decl}
 use Rattle.cv_props.specs.declared.key.Key.{Key}
 use Rattle.cv_props.specs.Keys.{same_key}
 use Rattle.cv_props.specs.KeyLaws.{same_key_equiv}
-use Rattle.cv_props.specs.Winners.{Declarations, is_of, is_important_of, first_or, last_such, winner, keys_kept, winners}
+use Rattle.cv_props.specs.Winners.{Declarations, declaration_of, is_of, is_important_of, first_or, last_such, winner, keys_kept, winners}
+use Rattle.cv_props.specs.WinnerLaws.{WinnersAreByKey}
 use Rattle.cv_props.specs.Declaring.{is_important, with_declaration}
 use Rattle.cv_props.proofs.KeyOrder.{equal_keys}
 
@@ -341,3 +342,33 @@ winners-push es key d =
         no_important : (b : Bool) → insert_entry same_key (declared_keys (winner es) (keys_kept es)) key d ≡ (if not b && false then declared_keys (winner es) (keys_kept es) else insert_entry same_key (declared_keys (winner es) (keys_kept es)) key d)
         no_important true = refl
         no_important false = refl
+
+-- where each of the keys has a declaration, the list has these keys
+keys_of-declared_keys : (f : Key → Option Decl) (keys : List Key) → ((q : Key) → stands q keys ≡ true → is_some (f q) ≡ true) → keys_of (declared_keys f keys) ≡ keys
+keys_of-declared_keys f [] some = refl
+keys_of-declared_keys f (k ∷ ks) some =
+    by (f k) (some k (ap (λ t. t || stands k ks) (same_itself k))) (keys_of-declared_keys f ks (λ q there. some q (or_true (same_key q k) (stands q ks) there)))
+  where
+    or_true : (a b : Bool) → b ≡ true → (a || b) ≡ true
+    or_true true b holds = refl
+    or_true false b holds = holds
+
+    by : (o : Option Decl) → is_some o ≡ true → keys_of (declared_keys f ks) ≡ ks → keys_of (cons_option (option_map (λ d. (k, d)) o) (declared_keys f ks)) ≡ k ∷ ks
+    by None there rest = cc
+    by (Some d) there rest = ap (λ l. k ∷ l) rest
+
+keys_of-winners : (es : Declarations) → keys_of (winners es) ≡ keys_kept es
+unfolding winners
+keys_of-winners es = keys_of-declared_keys (winner es) (keys_kept es) (λ q there. sym (stands-winner es q) ∙ there)
+
+declaration_of-winners : (es : Declarations) (key : Key) → declaration_of (winners es) key ≡ winner es key
+unfolding winners
+declaration_of-winners es key =
+    found_among (winner es) key (keys_kept es) ∙ ap (λ t. if t then winner es key else None) (stands-winner es key) ∙ by (winner es key)
+  where
+    by : (o : Option Decl) → (if is_some o then o else None) ≡ o
+    by None = refl
+    by (Some d) = refl
+
+pub winners_are_by_key : WinnersAreByKey
+winners_are_by_key = record { order = keys_of-winners; declaration = declaration_of-winners }

@@ -1,6 +1,7 @@
 -- The items and rules of a list are no more than its tokens, and hold only tokens that are spelt where the list's are.
-use Rattle.std.proofs.Common.{◌≡◌, ℕ, suc, zero, pred, ◌-◌, ◌<◌, ◌≤◌, Bool, true, false, List, [], ◌∷◌, ◌++◌, length, map, reverse, take, Option, Some, None, refl, sym, ap, ◌∙◌, subst, length-append, lit<, arith}
+use Rattle.std.proofs.Common.{◌≡◌, ℕ, suc, zero, pred, ◌-◌, ◌<◌, ◌≤◌, ◌||◌, Bool, true, false, List, [], ◌∷◌, ◌++◌, length, map, reverse, take, Option, Some, None, refl, sym, ap, ◌∙◌, subst, length-append, lit<, arith}
 use Rattle.std.specs.Prelude.{All, Contains, IsAscii, IfSome, if◌then◌else◌, option_map, ◌==◌}
+use Rattle.std.specs.List.{list_any}
 use Rattle.std.proofs.lemmas.List.Elements.{All-nil, All-cons, All-tail, All-append, All-map, All-take}
 use Rattle.std.proofs.lemmas.List.{get_or-reverse, length-reverse}
 use Rattle.std.proofs.lemmas.Str.{chars-IsAscii, IsUtf8-from_ascii}
@@ -158,3 +159,12 @@ one_rule l = by (begins_rule l)
 -- no more rules than tokens
 pub few_rules : (tokens : List Token) → length (rules tokens) ≤ length tokens
 few_rules tokens = run_values-few rule_size rule_at one_rule tokens
+
+-- where no element passes the test, each fails it
+pub none_pass : {A : Type 0} (test : A → Bool) (all : List A) → list_any test all ≡ false → All (λ x. test x ≡ false) all
+none_pass test [] none = All-nil (λ x. test x ≡ false)
+none_pass test (x ∷ xs) none = by (test x) refl none (none_pass test xs)
+  where
+    by : (b : Bool) → test x ≡ b → (b || list_any test xs) ≡ false → (list_any test xs ≡ false → All (λ y. test y ≡ false) xs) → All (λ y. test y ≡ false) (x ∷ xs)
+    by true is none more = cc
+    by false is none more = All-cons (λ y. test y ≡ false) x xs is (more none)

@@ -1,5 +1,7 @@
 -- The table of properties, tested as a whole.
-use Rattle.std.proofs.Common.{◌≡◌, ℕ, suc, zero, Bool, true, false, ◌==◌, ◌&&◌, List, [], ◌∷◌, Some, refl, slice_get, subst, ◌+◌, arith}
+use Rattle.std.proofs.Common.{◌≡◌, ◌<◌, ◌≤◌, ℕ, suc, zero, Bool, true, false, ◌==◌, ◌&&◌, List, [], ◌∷◌, Some, None, refl, ap, slice_get, subst, ◌+◌, arith}
+use Rattle.std.specs.Prelude.{IsSome, is_some}
+use Rattle.std.proofs.lemmas.Option.{slice_get-get_or, slice_get_past}
 use Rattle.std.proofs.lemmas.Bool.Decides.{nat_tests}
 use Rattle.cv_props.specs.declared.property.Property.{Property}
 use Rattle.cv_props.specs.declared.property.Property.TheVariants.{FontSize, Color, LineHeight, LetterSpacing, TextIndent, Visibility, Orphans, Display, Width, Height, MinWidth, MinHeight, MaxWidth, MaxHeight, MarginTop, MarginRight, MarginBottom, MarginLeft, PaddingTop, PaddingRight, PaddingBottom, PaddingLeft, Top, Right, Bottom, Left, RowGap, ColumnGap, Opacity, ZIndex, Order, FlexGrow, FlexShrink, BackgroundColor, OutlineOffset}
@@ -46,5 +48,13 @@ only_number : (n : ℕ) (p : Property) → numbered n ≡ Some p → number_of p
 unfolding numbered
 only_number n p at = omega (arith, counted 0 n properties p in_order at)
 
+some_below : (n : ℕ) → n < 35 → IsSome (numbered n)
+unfolding numbered
+some_below n below = ap is_some (slice_get-get_or properties n FontSize below)
+
+none_past : (n : ℕ) → 35 ≤ n → numbered n ≡ None
+unfolding numbered
+none_past n past = slice_get_past properties n past
+
 pub properties_are_found : PropertiesAreFound
-properties_are_found = record { numbered_so = number_found; one_number = only_number; named_so = name_found }
+properties_are_found = record { numbered_so = number_found; one_number = only_number; numbered_below = some_below; none_past = none_past; named_so = name_found }

@@ -1,7 +1,7 @@
 -- Which items of a style are kept, and why the others are ignored (CSS Syntax 3, "Consume a list of declarations"; Cascading
 -- Variables 1, "Custom Property Value Syntax" and "Using Cascading Variables").
-use Rattle.std.specs.Prelude.{ℕ, ◌≡◌, Bool, false, nat_lt, if◌then◌else◌, List, [], ◌∷◌, All, Option, Some, None, is_some, Result, Ok, Err}
-use Rattle.std.specs.List.{flat_map, enumerate_from}
+use Rattle.std.specs.Prelude.{ℕ, ◌≡◌, Bool, false, nat_lt, if◌then◌else◌, List, [], ◌∷◌, Option, Some, None, is_some, Result, Ok, Err}
+use Rattle.std.specs.List.{flat_map, enumerate_from, list_any}
 use Rattle.cv_spec_text.specs.declared.token.Token.{Token}
 use Rattle.cv_component.specs.Nesting.{depth}
 use Rattle.cv_component.specs.declared.items.Piece.{Piece}
@@ -59,6 +59,10 @@ abbrev pub declares_ordinary : Piece → Bool
 declares_ordinary (pieces.Decl name value important) = is_some (property_named name)
 declares_ordinary _ = false
 
+-- an item declares an ordinary property
+abbrev pub declare_ordinary : List Piece → Bool
+declare_ordinary pieces = list_any declares_ordinary pieces
+
 -- What is built so far: no item declares an ordinary property.
 abbrev pub DeclareCustomAlone : List Piece → Type 0
-DeclareCustomAlone pieces = All (λ piece. declares_ordinary piece ≡ false) pieces
+DeclareCustomAlone pieces = declare_ordinary pieces ≡ false

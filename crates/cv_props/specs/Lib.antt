@@ -5,6 +5,7 @@ pub mod TableLaws
 pub mod Valuations
 pub mod ValuationLaws
 pub mod Winners
+pub mod WinnerLaws
 pub mod Declaring
 pub mod Kept
 pub mod Reading

@@ -1,6 +1,6 @@
 -- The rules of a sheet, and notes on them (CSS Syntax 3, "Parse a stylesheet"; Properties and Values API 1, "The @property Rule").
-use Rattle.std.specs.Prelude.{ℕ, ◌≡◌, Bool, false, List, map, codes, All}
-use Rattle.std.specs.List.{enumerate_from}
+use Rattle.std.specs.Prelude.{ℕ, ◌≡◌, Bool, false, List, map, codes}
+use Rattle.std.specs.List.{enumerate_from, list_any}
 use Rattle.cv_spec_text.specs.Keywords.{is_word}
 use Rattle.cv_component.specs.declared.sheet.Rule.{Rule}
 use Rattle.cv_component.specs.declared.sheet.Rule.TheVariants as rules
@@ -13,9 +13,13 @@ abbrev pub registers : Rule → Bool
 registers (rules.At name prelude block) = is_word (codes "property") name
 registers rules.Other = false
 
+-- a rule is an `@property` rule
+abbrev pub register : List Rule → Bool
+register all = list_any registers all
+
 -- What is built so far: no rule is an `@property` rule.
 abbrev pub RegisterNothing : List Rule → Type 0
-RegisterNothing all = All (λ rule. registers rule ≡ false) all
+RegisterNothing all = register all ≡ false
 
 abbrev pub skipped : ℕ → Note
 skipped number = record { place = places.Rule number; why = Skipped }

@@ -1,5 +1,5 @@
--- What the properties of an element stand for (Cascading Variables 1, "Using Cascading Variables": a property without a value is
--- guaranteed-invalid).
+-- What the properties of an element stand for: tokens, or the guaranteed-invalid value (Cascading Variables 1,
+-- "Guaranteed-Invalid Values").
 use Rattle.std.specs.Prelude.{ℕ, ◌≡◌, Bool, true, false, List, [], ◌∷◌, ◌++◌, codes, All, Option, Some, None}
 use Rattle.std.specs.FinMap as map
 use Rattle.cv_spec_text.specs.Characters.{space}

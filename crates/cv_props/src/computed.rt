@@ -7,7 +7,8 @@ use cv_spec_text::Name;
 use sqlite_items::Items;
 use std::alloc::{AllocError, Global};
 
-/// Why a declared property is invalid at computed-value time (Cascading Variables 1, "Invalid Variables").
+/// Why a declared property is invalid at computed-value time (Cascading Variables 1, "Invalid Variables",
+/// "Resolving Dependency Cycles" and "Safely Handling Overly-Long Variables").
 #[derive(Debug, Drop)]
 pub enum Cause {
     /// It depends on itself.
@@ -40,12 +41,12 @@ pub struct Computed {
 
 impl Computed {
     /// The same values and causes again.
-    pub fn copy(&self, alloc: Global) -> Result<Self, AllocError>
+    pub fn copy(&self) -> Result<Self, AllocError>
         ensures { IfOk result (λ computed. computed ≡ self.now) }
     {
         Ok(Computed {
             values: self.values.copy()?,
-            faults: copied(alloc, self.faults.as_slice())?,
+            faults: copied(self.values.allocator(), self.faults.as_slice())?,
         })
     }
 }

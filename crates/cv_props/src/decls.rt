@@ -1,7 +1,8 @@
 // The declarations of an element.
 ghost use Rattle.std.specs.Prelude.{◌≡◌, ◌<◌, [], length, slice_get, is_some, Some, All, IfOk, OnOk, OnErr};
+ghost use Rattle.std.specs.List.{IsDistinct};
 ghost use Rattle.std.specs.Option.{option_copied};
-ghost use Rattle.std.specs.Map.{remove_entry};
+ghost use Rattle.std.specs.Map.{keys_of, remove_entry};
 ghost use Rattle.indexmap.specs.IndexMap.{insert_entry};
 ghost use Rattle.cv_props.specs.Keys.{same_key};
 ghost use Rattle.cv_props.specs.Winners.{declaration_of};
@@ -70,7 +71,8 @@ impl Decls {
 
     /// How many keys there are.
     pub fn len(&self) -> usize
-        ensures { result ≡ length self.now }
+        ensures len { result ≡ length self.now }
+        ensures once { IsDistinct same_key (keys_of self.now) }
     {
         self.declarations.len()
     }
@@ -129,7 +131,7 @@ impl Decls {
     }
 
     /// Keeps one more declaration: it wins unless an important one stands there and it isn't important.
-    pub fn keep(&mut self, key: Key, declaration: Decl) -> Result<(), AllocError>
+    pub(crate) fn keep(&mut self, key: Key, declaration: Decl) -> Result<(), AllocError>
         requires { MayDeclare key declaration }
         ensures { OnOk result (self.new ≡ with_declaration self.old key declaration) }
     {

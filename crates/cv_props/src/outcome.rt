@@ -91,6 +91,11 @@ impl Valuation {
         }
     }
 
+    // The allocator of the outcomes.
+    pub(crate) fn allocator(&self) -> Global {
+        *self.outcomes.allocator()
+    }
+
     /// The same outcomes again.
     pub fn copy(&self) -> Result<Self, AllocError>
         ensures { IfOk result (λ valuation. valuation ≡ self.now) }

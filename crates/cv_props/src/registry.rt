@@ -2,19 +2,18 @@
 ghost use Rattle.std.specs.Prelude.{◌≡◌, ◌<◌, [], length, All, IfOk};
 ghost use Rattle.cv_spec_text.specs.Splits.{IsSpelt};
 ghost use Rattle.cv_component.specs.Rules.{rules};
-ghost use Rattle.cv_props.specs.Sheets.{RegisterNothing, notes_on_rules};
+ghost use Rattle.cv_props.specs.Sheets.{RegisterNothing, notes_on_rules, register, registers};
 
 use crate::note::{Note, NotePlace, Why};
 use cv_component::{Rule, rules};
 use cv_spec_text::{Name, Token};
-use sqlite_items::Items;
 use std::alloc::{AllocError, Global};
 use std::marker::Model;
 
 /// The registered custom properties. Contracts see the list of their names.
 #[derive(Drop)]
 pub struct Registry {
-    names: Items<Name>,
+    names: Vec<Name>,
 }
 
 impl Model for Registry {
@@ -22,7 +21,7 @@ impl Model for Registry {
 
     ghost Value = { List (List ℕ) };
 
-    ghost view = { λ registry. registry.names };
+    ghost view = { λ registry. registry.names.items };
 }
 
 impl Registry {
@@ -42,24 +41,41 @@ impl Registry {
     {
         let all = rules(alloc, tokens)?;
         let notes = skipped(alloc, &all)?;
-        let names = Items::new(alloc);
+        let names = Vec::new(alloc);
         Ok((Registry { names }, notes))
     }
 
     /// The same registry again.
-    pub fn copy(&self, alloc: Global) -> Result<Self, AllocError>
+    pub fn copy(&self) -> Result<Self, AllocError>
         ensures { IfOk result (λ registry. registry ≡ self.now) }
     {
         Ok(Registry {
-            names: copied(alloc, self.names.as_slice())?,
+            names: copied(&self.names)?,
         })
     }
 }
 
-fn copied(alloc: Global, names: &[Name]) -> Result<Items<Name>, AllocError>
-    ensures { IfOk result (λ all. all ≡ names.now) }
+/// Whether a rule of the sheet is an `@property` rule, which `Registry::of_sheet` can't take yet.
+pub fn registers(alloc: Global, tokens: &[Token]) -> Result<bool, AllocError>
+    ensures { IfOk result (λ found. found ≡ register (rules tokens.now)) }
 {
-    let mut all = Items::new(alloc);
+    let all = rules(alloc, tokens)?;
+    Ok(all.iter().any(is_registration))
+}
+
+fn is_registration(rule: &Rule) -> bool
+    ensures { result ≡ registers rule.now }
+{
+    match rule {
+        Rule::At { name, .. } => name.is_word("property"),
+        Rule::Other => false,
+    }
+}
+
+fn copied(names: &Vec<Name>) -> Result<Vec<Name>, AllocError>
+    ensures { IfOk result (λ all. all.items ≡ names.now.items) }
+{
+    let mut all = Vec::new(*names.allocator());
     for name in names {
         all.push(name.copy()?)?;
     }

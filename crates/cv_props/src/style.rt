@@ -5,13 +5,14 @@ ghost use Rattle.cv_component.specs.Items.{items};
 ghost use Rattle.cv_props.specs.Declaring.{MayDeclare};
 ghost use Rattle.cv_props.specs.Keys.{key_named};
 ghost use Rattle.cv_props.specs.Table.{property_named};
-ghost use Rattle.cv_props.specs.Kept.{DeclareCustomAlone, declared_by, declared_by_item, declares_ordinary, kept_declarations, note_on, notes_on, value_fault};
+ghost use Rattle.cv_props.specs.Kept.{DeclareCustomAlone, declared_by, declared_by_item, declare_ordinary, declares_ordinary, kept_declarations, note_on, notes_on, value_fault};
 ghost use Rattle.cv_props.specs.Reading.{IsIgnored, IsRefused, IsSpeltItem, with_item};
 ghost use Rattle.cv_props.specs.Winners.{winners};
 
 use crate::decls::{Decl, Decls};
 use crate::key::Key;
 use crate::note::{Note, NotePlace, Why};
+use crate::property::property_named;
 use cv_component::{Piece, declarations};
 use cv_spec_text::{Name, Token};
 use cv_var::{Declared, VarErr, check};
@@ -54,10 +55,27 @@ impl Decls {
     }
 }
 
+/// Whether an item of the style declares an ordinary property, which `Decls::of_style` can't take yet.
+pub fn declares_ordinary(alloc: Global, tokens: &[Token]) -> Result<bool, AllocError>
+    ensures { IfOk result (λ found. found ≡ declare_ordinary (items tokens.now)) }
+{
+    let pieces = declarations(alloc, tokens)?;
+    Ok(pieces.iter().any(is_ordinary))
+}
+
+fn is_ordinary(piece: &Piece) -> bool
+    ensures { result ≡ declares_ordinary piece.now }
+{
+    match piece {
+        Piece::Decl { name, .. } => property_named(name).is_some(),
+        _ => false,
+    }
+}
+
 fn of_items(alloc: Global, element: u32, pieces: &[Piece]) -> Result<(Decls, Vec<Note>), AllocError>
     requires spelt { All IsSpeltItem pieces.now }
     requires few { length pieces.now < 4294967288 }
-    requires built { DeclareCustomAlone pieces.now }
+    requires built { All (λ piece. declares_ordinary piece ≡ false) pieces.now }
     ensures declarations { IfOk result (λ style. style.0 ≡ winners (kept_declarations pieces.now)) }
     ensures notes { IfOk result (λ style. style.1.items ≡ notes_on element pieces.now) }
 {

@@ -3,6 +3,7 @@ pub mod Gcd
 pub mod Laws
 pub mod LowestTerms
 pub mod Order
+pub mod Pairs
 pub mod Quotients
 pub mod Reciprocal
 pub mod Whole

@@ -3,7 +3,7 @@ use Rattle.std.proofs.Common.{◌≡◌, true, false, Bool, List, Option, Some, 
 use Rattle.cv_spec_element.specs.Keywords.{Keyword}
 use Rattle.cv_spec_element.specs.Words.{keyword_of}
 use Rattle.cv_spec_element.specs.Element.{Outcome, Declarations}
-use Rattle.cv_spec_element.specs.Dependencies.{Refers, Edge}
+use Rattle.cv_spec_element.specs.Dependencies.{Refers, Edge, DependsOnItself, Reads}
 use Rattle.cv_spec_element.specs.Premises.{IsKept, IsLawful}
 use Rattle.cv_spec_element.specs.Loose.{loose_outcome, loose_parent, loose_element, IsLooselyLawful}
 
@@ -35,3 +35,10 @@ module _ {K T : Type 0} (is_same : K → K → Bool) (font_size : K) (declaratio
       to : Edge (loose_element is_same font_size declarations is_white keyword parent) p q → Refers (loose_element is_same font_size declarations is_white keyword parent) p q
       to (inl refers) = refers
       to (inr size) = absurd (let clash : true ≡ false = size.1.is_typed in cc)
+
+  pub loose_reads : (p q : K) → Reads (loose_element is_same font_size declarations is_white keyword parent) p q ↔ ((¬ DependsOnItself (loose_element is_same font_size declarations is_white keyword parent) p) × Refers (loose_element is_same font_size declarations is_white keyword parent) p q)
+  loose_reads p q = (to, λ both. inl (both.0, inl both.1))
+    where
+      to : Reads (loose_element is_same font_size declarations is_white keyword parent) p q → (¬ DependsOnItself (loose_element is_same font_size declarations is_white keyword parent) p) × Refers (loose_element is_same font_size declarations is_white keyword parent) p q
+      to (inl (loopless, edge)) = (loopless, (loose_edges p q).0 edge)
+      to (inr size) = absurd (let clash : true ≡ false = size.1.ordinary in cc)

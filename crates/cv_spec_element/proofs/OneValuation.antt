@@ -1,12 +1,13 @@
 -- The equations have one solution, and what settles each value once is it.
-use Rattle.std.proofs.Common.{◌≡◌, true, suc, List, length, Ok, sym, ◌∙◌, subst}
+use Rattle.std.proofs.Common.{◌≡◌, true, suc, List, length, Ok, ◌↔◌, sym, ◌∙◌, subst}
 use Rattle.cv_spec_element.specs.Words.{HasUnit}
 use Rattle.cv_spec_element.specs.Element.{Outcome, invalid, Element}
 use Rattle.cv_spec_element.specs.Dependencies.{Holds, Reads}
-use Rattle.cv_spec_element.specs.Valuation.{SubIs, Gives, IsValuation, HasOneValuation, IsSettled}
+use Rattle.cv_spec_element.specs.Valuation.{Cause, SubIs, IsInvalid, IsOutOfRange, Gives, IsValuation, HasOneValuation, IsSettled}
 use Rattle.cv_spec_element.specs.Premises.{IsLawful}
 use Rattle.cv_spec_element.proofs.Solutions.{after, unique, exists, sound, by_edges}
 use Rattle.cv_spec_element.proofs.RightSide.{next_outcome, gives_next, next_gives}
+use Rattle.cv_spec_element.proofs.Kept.{invalid_kept, out_of_range_kept}
 use Rattle.cv_spec_element.proofs.Sound.{IsSound, decide, equations_read, unit_held}
 
 module _ {K T V U M : Type 0} (e : Element K T V U M) (laws : IsLawful e) where
@@ -62,3 +63,16 @@ module _ {K T V U M : Type 0} (e : Element K T V U M) (laws : IsLawful e) where
   pub one_value : (values : K → Outcome T V) (p : K) (one other : Outcome T V) → Gives e values p one → Gives e values p other → other ≡ one
   one_value values p one other first second =
       gives_next e (decide e laws) values p other second ∙ sym (gives_next e (decide e laws) values p one first)
+
+  settled_sound : (values : K → Outcome T V) → ((p : K) → IsSettled e values p) → (q : K) → IsSound e laws q (values q)
+  settled_sound values settled =
+      sound e.declarations.names (Reads e) next (IsSound e laws) (equations_read e laws) values (valuation_next values (settled_solves values settled))
+
+  -- the causes that held when a value was settled are those that hold at the end
+  pub settled_causes : (values : K → Outcome T V) (settled : (p : K) → IsSettled e values p) (p : K) (cause : Cause K) → IsInvalid e (settled p).earlier p cause ↔ IsInvalid e values p cause
+  settled_causes values settled p cause =
+      invalid_kept e laws values (settled p).earlier p (λ q here. (sym ((settled p).kept q here), settled_sound values settled q)) cause
+
+  pub settled_ranges : (values : K → Outcome T V) (settled : (p : K) → IsSettled e values p) (p : K) → IsOutOfRange e (settled p).earlier p ↔ IsOutOfRange e values p
+  settled_ranges values settled p =
+      out_of_range_kept e laws values (settled p).earlier p (λ q here. (sym ((settled p).kept q here), settled_sound values settled q))

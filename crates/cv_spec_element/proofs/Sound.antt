@@ -153,7 +153,7 @@ module _ {K T V U M : Type 0} (e : Element K T V U M) (laws : IsLawful e) where
     is_declared = subst (λ o. IsSome o) (sym is) refl
 
     -- the list reads alike, at the one font size and at the other
-    reads_same : (list : List T) → substituted e v pieces ≡ Ok list → e.properties.is_loose p ≡ false → e.values.reads p (font_size_for e v p) (trim e.words list) ≡ e.values.reads p (font_size_for e w p) (trim e.words list)
+    pub reads_same : (list : List T) → substituted e v pieces ≡ Ok list → e.properties.is_loose p ≡ false → e.values.reads p (font_size_for e v p) (trim e.words list) ≡ e.values.reads p (font_size_for e w p) (trim e.words list)
     reads_same list sub_is firm = by_size (e.properties.is_same p e.properties.font_size) refl
       where
         at_custom : e.properties.is_custom p ≡ true → (long : Bool) → e.properties.has_lengths p ≡ long → e.values.reads p (e.values.font_size_of (v e.properties.font_size)) (trim e.words list) ≡ e.values.reads p (e.values.font_size_of (w e.properties.font_size)) (trim e.words list)

@@ -18,7 +18,7 @@ is_substituted None = false
 is_substituted (Some pieces) = has_reference pieces
 
 -- why a declared property is invalid at computed-value time (Cascading Variables 1, "Invalid Variables",
--- "Resolving Dependency Cycles", "Long Variables"; Properties and Values API 1, "Computed Value")
+-- "Resolving Dependency Cycles", "Long Variables"; Properties and Values API 1, "Computed Values")
 pub data Cause (K : Type 0) : Type 0 where
   cycle : Cause K
   missing : K → Cause K
@@ -74,7 +74,7 @@ module _ {K T V U M : Type 0} (e : Element K T V U M) where
   IsInvalid values p mismatch = (list : List T) × IsMatched values p list no
 
   -- what a property has that is invalid at computed-value time: a loose one the guaranteed-invalid value, any other
-  -- what it has undeclared (Cascading Variables 1, "Invalid Variables"; Properties and Values API 1, "Computed Value")
+  -- what it has undeclared (Cascading Variables 1, "Invalid Variables"; Properties and Values API 1, "Computed Values")
   abbrev pub invalid_value : K → Outcome T V
   invalid_value p = if e.properties.is_loose p then invalid else undeclared_value e p
 

@@ -4,7 +4,7 @@ ghost use Rattle.cv_spec_element.specs.Walks.{IsCyclic};
 ghost use Rattle.cv_spec_element.specs.Words.{HasUnit};
 ghost use Rattle.cv_spec_element.specs.Element.{Outcome, Element};
 ghost use Rattle.cv_spec_element.specs.Dependencies.{Refers, Holds, Edge, DependsOnItself};
-ghost use Rattle.cv_spec_element.specs.Valuation.{Cause, SubIs, IsInvalid, invalid_value, Gives, IsValuation, HasOneValuation, IsSettled, HasOneCause};
+ghost use Rattle.cv_spec_element.specs.Valuation.{Cause, SubIs, IsInvalid, IsOutOfRange, invalid_value, Gives, IsValuation, HasOneValuation, IsSettled, HasOneCause};
 ghost use Rattle.cv_spec_element.specs.Premises.{IsLawful};
 ghost use Rattle.cv_spec_element.specs.Numbering.{NumberEdge, IsNumbering};
 
@@ -16,9 +16,12 @@ pub fn has_one_valuation<K, T, V, U, M>()
 
 /// Values that were each settled once are the valuation: each is what the equations give, where they read the values
 /// of that moment, and those that they read stand unchanged at the end. No order is named; along the dependency graph
-/// there always is one.
+/// there always is one. The causes that held when a value was settled hold at the end, and no others; so with what is
+/// out of range.
 pub fn settled_values_solve<K, T, V, U, M>()
-    ensures { (e : Element K T V U M) → IsLawful e → (values : K → Outcome T V) → ((p : K) → IsSettled e values p) → IsValuation e values }
+    ensures solves { (e : Element K T V U M) → IsLawful e → (values : K → Outcome T V) → ((p : K) → IsSettled e values p) → IsValuation e values }
+    ensures causes { (e : Element K T V U M) → IsLawful e → (values : K → Outcome T V) (settled : (p : K) → IsSettled e values p) (p : K) (cause : Cause K) → IsInvalid e (settled p).earlier p cause ↔ IsInvalid e values p cause }
+    ensures ranges { (e : Element K T V U M) → IsLawful e → (values : K → Outcome T V) (settled : (p : K) → IsSettled e values p) (p : K) → IsOutOfRange e (settled p).earlier p ↔ IsOutOfRange e values p }
 {}
 
 /// A property that is invalid at computed-value time is declared and has exactly one cause; in a valuation it has

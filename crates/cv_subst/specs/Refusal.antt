@@ -5,7 +5,7 @@ use Rattle.cv_subst.specs.declared.refusal.SubstErr.{SubstErr}
 use Rattle.cv_subst.specs.declared.refusal.SubstErr.TheVariants.{Missing, OverLimit, Memory}
 
 -- the cause of a refusal: the list has no value for this name, or it is longer than the limit; want of memory has none in
--- the list (the limit is that of Cascading Variables 1, "Long Variables")
+-- the list (a limit is asked for by Cascading Variables 1, "Safely Handling Overly-Long Variables")
 abbrev pub IsCause : Result (List Token) (List ℕ) → ℕ → SubstErr → Type 0
 IsCause outcome limit (Missing name) = outcome ≡ Err name
 IsCause outcome limit (OverLimit count) = (tokens : List Token) × (outcome ≡ Ok tokens) × (length tokens ≡ count) × (limit < count)

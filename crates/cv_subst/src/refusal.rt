@@ -4,7 +4,7 @@ ghost use Rattle.std.specs.Prelude.{◌≡◌};
 use cv_spec_text::{Name, OutOfMemory};
 
 /// Why a list isn't substituted.
-#[derive(Debug, Drop)]
+#[derive(Debug, PartialEq, Eq, Drop)]
 pub enum SubstErr {
     /// A reference to this name has neither a value nor a fallback.
     Missing(Name),

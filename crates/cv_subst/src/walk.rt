@@ -93,13 +93,14 @@ fn tokens_of(alloc: Global, declared: &Declared, values: &Runs) -> Result<Vec<To
     Ok(all)
 }
 
-/// The list with each reference replaced: by the run of its name, else by its fallback (Cascading Variables 1,
-/// "Substitution"). The refusals, in this order:
+/// The list with each reference replaced: by the run of its name, else by its fallback (Cascading Variables 1, "Using
+/// Cascading Variables: the var() notation"). The refusals, in this order:
 ///
 /// - [`SubstErr::Missing`] with the first name from the left that has neither a run nor a fallback;
 /// - [`SubstErr::OverLimit`] with the length of the list, exactly where that is more than the limit.
 ///
-/// A fallback that isn't used doesn't count, and no run is looked into for references.
+/// Each token of the list counts, and a fallback that isn't used doesn't. A run isn't searched for references. The tokens
+/// are counted before any is copied, so a list that is longer than the limit is never built.
 pub fn substitute(
     alloc: Global,
     declared: &Declared,

@@ -34,7 +34,7 @@ plain_in_front front rest is =
     })
 
 -- an escape by its hex digits
-hex_length-least : (text : List ℕ) (hex : ℕ) → hex_length (drop 1 text) ≡ hex → 0 < hex → 1 + hex ≤ escape_length text
+pub hex_length-least : (text : List ℕ) (hex : ℕ) → hex_length (drop 1 text) ≡ hex → 0 < hex → 1 + hex ≤ escape_length text
 unfolding escape_length
 hex_length-least text hex size some =
     let other : (hex == 0) ≡ false = grind (arith, nat_tests) in
@@ -53,7 +53,7 @@ hex_length-bare text hex size some space =
     rw (size, other, space) refl
 
 -- whitespace is no hex digit, and a hex digit is no LF
-no_hex_space : (c : ℕ) (rest : List ℕ) → is_whitespace c ≡ true → begins_by is_ascii_hexdigit (c ∷ rest) ≡ false
+pub no_hex_space : (c : ℕ) (rest : List ℕ) → is_whitespace c ≡ true → begins_by is_ascii_hexdigit (c ∷ rest) ≡ false
 no_hex_space c rest space = grind (arith, nat_tests)
 
 no_line_feed : (digits rest : List ℕ) → 0 < length digits → All (λ c. is_ascii_hexdigit c ≡ true) digits → begins_with line_feed (digits ++ rest) ≡ false

@@ -1,3 +1,4 @@
+pub mod CodePoints
 pub mod Comments
 pub mod Digits
 pub mod Escapes

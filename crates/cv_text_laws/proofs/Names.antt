@@ -23,11 +23,11 @@ unfolding name_piece_length
 name_piece-escape text begins =
     if_false (begins_by is_ident_code_point text) _ _ (escape-plain text begins) ∙ if_true (begins_escape text) _ _ begins
 
-name_piece-ident : (text : List ℕ) → begins_by is_ident_code_point text ≡ true → name_piece_length text ≡ 1
+pub name_piece-ident : (text : List ℕ) → begins_by is_ident_code_point text ≡ true → name_piece_length text ≡ 1
 unfolding name_piece_length
 name_piece-ident text ident = if_true (begins_by is_ident_code_point text) _ _ ident
 
-name_piece-none : (text : List ℕ) → begins_by is_ident_code_point text ≡ false → begins_escape text ≡ false → name_piece_length text ≡ 0
+pub name_piece-none : (text : List ℕ) → begins_by is_ident_code_point text ≡ false → begins_escape text ≡ false → name_piece_length text ≡ 0
 unfolding name_piece_length
 name_piece-none text other plain = if_false (begins_by is_ident_code_point text) _ _ other ∙ if_false (begins_escape text) _ _ plain
 

@@ -3,3 +3,4 @@ pub mod NumberSpellings
 pub mod EscapeSpellings
 pub mod NameSpellings
 pub mod FirstEnds
+pub mod CodePoints

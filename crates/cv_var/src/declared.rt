@@ -55,7 +55,8 @@ fn copied(alloc: Global, tokens: &[Token]) -> Result<Vec<Token>, OutOfMemory>
     Ok(all)
 }
 
-/// Checks a list. The refusals, in this order:
+/// Checks a list (Cascading Variables 1, "Custom Property Value Syntax" and "Using Cascading Variables: the var()
+/// notation"). The empty list is a declaration value. The refusals, in this order:
 ///
 /// - [`VarErr::TooDeep`] exactly where it is nested deeper than 128;
 /// - [`VarErr::BadValue`] with the place of the first token that may not stand in a declaration value;

@@ -11,7 +11,7 @@ use cv_spec_text::{OutOfMemory, Token};
 use std::alloc::Global;
 
 /// Why a list is refused.
-#[derive(Clone, Copy, Debug)]
+#[derive(Clone, Copy, Debug, PartialEq, Eq)]
 pub enum VarErr {
     /// It is nested deeper than 128.
     TooDeep,
@@ -34,7 +34,7 @@ impl From<OutOfMemory> for VarErr {
     }
 }
 
-/// Tests a list against the rules of a declared one.
+/// Tests a list against the rules of a declared one. The depth comes first, so that nothing behind it meets a deeper list.
 pub fn check_tokens(alloc: Global, tokens: &[Token]) -> Result<(), VarErr>
     ensures ok { OnOk result (IsChecked tokens.now) }
     ensures too_deep { 128 < depth tokens.now → IsErrOf result VarErr.TooDeep }

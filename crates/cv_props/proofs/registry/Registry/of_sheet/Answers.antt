@@ -1,4 +1,4 @@
-use Rattle.std.proofs.Common.{◌≡◌, ap, ◌∙◌, length, arith}
+use Rattle.std.proofs.Common.{ap, ◌∙◌, length, arith}
 use Rattle.cv_props.proofs.Split.{few_rules}
 use Rattle.cv_props.proofs.registry.Registry.of_sheet.Goals as goal
 

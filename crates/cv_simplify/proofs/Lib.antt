@@ -1,0 +1,15 @@
+pub mod Bounds
+pub mod Canonical
+pub mod Divisors
+pub mod Settled
+pub mod Sizes
+pub mod Folds
+pub mod InRange
+pub mod Least
+pub mod Numbers
+pub mod ProductRange
+pub mod Ranges
+pub mod Rows
+pub mod Steps
+pub mod SumRange
+pub mod Texts
