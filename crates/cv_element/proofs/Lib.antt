@@ -1,0 +1,13 @@
+pub mod TokenKinds
+pub mod Keying
+pub mod SameKeys
+pub mod Trimming
+pub mod Giving
+pub mod Stepping
+pub mod Keeping
+pub mod Ending
+pub mod Loading
+pub mod Graphing
+pub mod Naming
+pub mod Whole
+pub mod Result

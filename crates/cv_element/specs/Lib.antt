@@ -1,0 +1,4 @@
+pub mod Element
+pub mod Names
+pub mod Answers
+pub mod Settling
