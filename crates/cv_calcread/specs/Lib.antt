@@ -4,3 +4,4 @@ pub mod Literals
 pub mod Reading
 pub mod Grammar
 pub mod Unique
+pub mod Judged
