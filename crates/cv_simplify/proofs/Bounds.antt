@@ -1,5 +1,5 @@
 -- What has its fractions in bounds has them in bounds when it is negated, inverted, compared or clamped.
-use Rattle.std.specs.Prelude.{Bool, true, false, ◌&&◌, nat_lt, neg_ℤ, unsigned_abs, List, [], ◌∷◌, fold, Option, Some, None, if◌then◌else◌}
+use Rattle.std.specs.Prelude.{Bool, true, false, ◌&&◌, nat_lt, neg_ℤ, unsigned_abs, List, [], ◌∷◌, Option, Some, None, if◌then◌else◌}
 use Rattle.std.proofs.Common.{◌≡◌, ℕ, zero, suc, ◌<◌, ◌^◌, ℤ, pos, negsuc, refl, sym, ◌∙◌, ap, ap₂, arith}
 use Rattle.cv_ratio.specs.Gcd.{gcd}
 use Rattle.cv_ratio.specs.Ratio.{Ratio, ratio, neg, reciprocal, reciprocal_by}
@@ -11,7 +11,7 @@ use Rattle.cv_calc.specs.declared.unit.Unit as units
 use Rattle.cv_calc.specs.declared.unit.Unit.TheVariants.{Number}
 use Rattle.cv_calc.specs.declared.calc.Calc.{Calc}
 use Rattle.cv_calc.specs.declared.calc.Calc.TheVariants as tree
-use Rattle.cv_calc.specs.declared.calc.Calc.TheOpen.{Calc-F, Num, Sum, Product, Negate, Invert, Min, Max, Clamp}
+use Rattle.cv_calc.specs.declared.calc.Calc.TheOpen.{Calc-F, Num, Negate, Invert}
 use Rattle.cv_calc.specs.declared.calc.Calc.TheViews.{out-Calc, roll-Calc, roll-out-Calc}
 use Rattle.cv_calc.specs.Unit.{same_unit}
 use Rattle.cv_simplify.specs.Counted.{inside, all_inside}

@@ -1,6 +1,6 @@
 -- A simplified calculation holds numbers, percentages and canonical units alone.
 use Rattle.std.specs.Prelude.{Bool, true, false, ◌&&◌, List, [], ◌∷◌, fold, map, Option, Some, None, option_map, if◌then◌else◌}
-use Rattle.std.proofs.Common.{◌≡◌, refl, sym, ◌∙◌, ap, ap₂}
+use Rattle.std.proofs.Common.{◌≡◌, refl, sym, ◌∙◌, ap}
 use Rattle.cv_ratio.specs.Ratio.{Ratio, add, mul, neg, reciprocal}
 use Rattle.cv_ratio.specs.Order.{lesser, greater}
 use Rattle.cv_calc.specs.declared.unit.Unit as units
@@ -10,14 +10,14 @@ use Rattle.cv_calc.specs.declared.context.Basis.TheVariants.{Plain, Length, Of}
 use Rattle.cv_calc.specs.declared.context.Context.{Context}
 use Rattle.cv_calc.specs.declared.calc.Calc.{Calc}
 use Rattle.cv_calc.specs.declared.calc.Calc.TheVariants as tree
-use Rattle.cv_calc.specs.declared.calc.Calc.TheOpen.{Calc-F, Num, Sum, Product, Negate, Invert, Min, Max, Clamp}
+use Rattle.cv_calc.specs.declared.calc.Calc.TheOpen.{Calc-F, Num, Sum, Product, Negate, Invert}
 use Rattle.cv_calc.specs.declared.calc.Calc.TheViews.{out-Calc, roll-Calc, roll-out-Calc}
 use Rattle.cv_calc.specs.declared.calc.Calc.TheFolds.{fold-roll-Calc, map-Calc}
 use Rattle.cv_calc.specs.Factor.{canonical}
 use Rattle.cv_calc.specs.Unit.{same_unit}
 use Rattle.cv_calc.specs.Tree.{Each, by_cases, fold-Num, fold-Sum, fold-Product, fold-Negate, fold-Invert, fold-Min, fold-Max, fold-Clamp}
 use Rattle.cv_simplify.specs.Canonical.{is_canonical, all_canonical, canonical_step, holds_canonical}
-use Rattle.cv_simplify.specs.Simplified.{percent_in, number_in, negated_as, inverse_or, inverted_as, joined_as, joined_by, join_first, with_child, one_or, any_unit, terms_as, terms_of, with_terms_of, factors_as, factors_of, is_number, with_factors_of, product_row, scaled_term, both_terms, scaled_terms, scaled_as, scaled, number_of, scaled_pair, or_else, product_as, multiplied, compares_percent, may_compare, number_clamped_as, number_clamped, clamped_as, simp, simp_step}
+use Rattle.cv_simplify.specs.Simplified.{percent_in, number_in, negated_as, inverse_or, inverted_as, joined_as, joined_by, join_first, with_child, one_or, any_unit, terms_as, terms_of, with_terms_of, factors_as, factors_of, is_number, with_factors_of, scaled_term, both_terms, scaled_terms, scaled_as, number_of, scaled_pair, or_else, product_as, compares_percent, may_compare, number_clamped_as, number_clamped, clamped_as, simp, simp_step}
 use Rattle.cv_simplify.proofs.InRange.{and_true, both_true}
 
 pub canonical-roll : (l : Calc-F Calc) → holds_canonical (roll-Calc l) ≡ canonical_step (map-Calc Calc Bool holds_canonical l)

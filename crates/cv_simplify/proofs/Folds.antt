@@ -1,6 +1,6 @@
 -- A fold that has come to a state which nothing changes.
-use Rattle.std.specs.Prelude.{List, [], ◌∷◌, ◌++◌, fold, map}
-use Rattle.std.proofs.Common.{◌≡◌, ℕ, zero, suc, ◌<◌, length, take, get_or, refl, sym, ◌∙◌, ap, arith}
+use Rattle.std.specs.Prelude.{List, [], ◌∷◌, fold, map}
+use Rattle.std.proofs.Common.{◌≡◌, ℕ, zero, suc, ◌<◌, length, take, get_or, refl, ◌∙◌, ap, arith}
 
 module _ {S A : Type 0} (step : S → A → S) (s : S) (stuck : (a : A) → step s a ≡ s) where
   pub stays : (xs : List A) → fold step s xs ≡ s

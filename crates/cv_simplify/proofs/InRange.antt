@@ -1,28 +1,23 @@
 -- What is made step by step is the simplified form exactly where the calculation is in range.
-use Rattle.std.specs.Prelude.{Bool, true, false, ◌&&◌, List, [], ◌∷◌, ◌++◌, fold, map, Option, Some, None, option_map, if◌then◌else◌}
-use Rattle.std.specs.Option.{option_and_then}
-use Rattle.std.proofs.Common.{◌≡◌, refl, sym, ◌∙◌, ap, ap₂}
-use Rattle.cv_ratio.specs.Ratio.{Ratio, add, mul, neg, reciprocal}
+use Rattle.std.specs.Prelude.{Bool, true, false, ◌&&◌, List, [], ◌∷◌, Option, Some, None, option_map, if◌then◌else◌}
+use Rattle.std.proofs.Common.{◌≡◌, refl, sym, ◌∙◌, ap}
+use Rattle.cv_ratio.specs.Ratio.{Ratio}
 use Rattle.cv_ratio.specs.Order.{lesser, greater, at_most}
 use Rattle.cv_frac.specs.Bounded.{in_bounds}
 use Rattle.cv_calc.specs.declared.unit.Unit as units
-use Rattle.cv_calc.specs.declared.unit.Unit.TheVariants.{Number, Percent, Px}
-use Rattle.cv_calc.specs.declared.context.Basis.{Basis}
-use Rattle.cv_calc.specs.declared.context.Basis.TheVariants.{Plain, Length, Of}
-use Rattle.cv_calc.specs.declared.context.Context.{Context}
 use Rattle.cv_calc.specs.declared.calc.Calc.{Calc}
 use Rattle.cv_calc.specs.declared.calc.Calc.TheVariants as tree
 use Rattle.cv_calc.specs.declared.calc.Calc.TheOpen.{Calc-F, Num, Sum, Product, Negate, Invert, Min, Max, Clamp}
 use Rattle.cv_calc.specs.declared.calc.Calc.TheViews.{out-Calc, roll-Calc, roll-out-Calc}
-use Rattle.cv_calc.specs.declared.calc.Calc.TheFolds.{fold-Calc, fold-roll-Calc, map-Calc}
-use Rattle.cv_calc.specs.Tree.{Each, by_cases, fold-Num, fold-Sum, fold-Product, fold-Negate, fold-Invert, fold-Min, fold-Max, fold-Clamp}
+use Rattle.cv_calc.specs.declared.calc.Calc.TheFolds.{fold-roll-Calc, map-Calc}
+use Rattle.cv_calc.specs.Tree.{fold-Num, fold-Sum, fold-Product, fold-Negate, fold-Invert, fold-Min, fold-Max, fold-Clamp}
 use Rattle.cv_calc.specs.Unit.{same_unit}
 use Rattle.cv_simplify.specs.declared.joining.Joining.{Joining}
 use Rattle.cv_simplify.specs.declared.joining.Joining.TheVariants as joining
 use Rattle.cv_simplify.specs.declared.joining.Joined.{Joined}
 use Rattle.cv_simplify.specs.declared.joining.Joined.TheVariants.{Apart, Outside, One}
-use Rattle.cv_simplify.specs.Counted.{all_true, inside, inside_step, all_inside}
-use Rattle.cv_simplify.specs.Simplified.{joined_as, joined_by, join_first, with_child, any_unit, terms_as, terms_of, factors_as, factors_of, may_compare}
+use Rattle.cv_simplify.specs.Counted.{inside, inside_step, all_inside}
+use Rattle.cv_simplify.specs.Simplified.{joined_as, joined_by, join_first, with_child}
 use Rattle.cv_simplify.specs.Checked.{only_if, within, may_join, joined_number, number_joined, one_number, joined_as_within, joined_within, term_first, with_term}
 
 -- ---- the fractions of a tree

@@ -13,7 +13,7 @@ use Rattle.cv_calc.specs.declared.context.Basis.TheVariants.{Plain, Length, Of}
 use Rattle.cv_calc.specs.declared.context.Context.{Context}
 use Rattle.cv_calc.specs.declared.calc.Calc.{Calc}
 use Rattle.cv_calc.specs.declared.calc.Calc.TheVariants as tree
-use Rattle.cv_calc.specs.declared.calc.Calc.TheOpen.{Calc-F, Num, Sum, Product, Negate, Invert, Min, Max, Clamp}
+use Rattle.cv_calc.specs.declared.calc.Calc.TheOpen.{Calc-F, Num, Sum, Product, Negate, Invert}
 use Rattle.cv_calc.specs.declared.calc.Calc.TheViews.{out-Calc, roll-Calc, roll-out-Calc}
 use Rattle.cv_calc.specs.Factor.{canonical, factor, hundredth, sizes_of}
 use Rattle.cv_calc.specs.Tree.{Each, by_cases, fold-Num, fold-Sum, fold-Product, fold-Negate, fold-Invert, fold-Min, fold-Max, fold-Clamp}

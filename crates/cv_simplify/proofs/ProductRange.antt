@@ -1,5 +1,5 @@
 -- The factors of a product stand for its row, and what they show is what the row gives, where it is in bounds.
-use Rattle.std.specs.Prelude.{Bool, true, false, ◌&&◌, List, [], ◌∷◌, ◌++◌, fold, map, Option, Some, None, option_map, if◌then◌else◌}
+use Rattle.std.specs.Prelude.{Bool, true, false, ◌&&◌, List, [], ◌∷◌, ◌++◌, fold, Option, Some, None, option_map, if◌then◌else◌}
 use Rattle.std.proofs.Common.{◌≡◌, refl, sym, ◌∙◌, ap, ap₂}
 use Rattle.cv_ratio.specs.Ratio.{Ratio, mul}
 use Rattle.cv_frac.specs.Bounded.{in_bounds}
@@ -16,7 +16,7 @@ use Rattle.cv_simplify.specs.declared.factors.Factors.{Factors}
 use Rattle.cv_simplify.specs.declared.factors.Factors.TheVariants.{Plain, Numbered}
 use Rattle.cv_simplify.specs.Counted.{inside, all_inside, longer_inside, prefixes_inside}
 use Rattle.cv_simplify.specs.Simplified.{joined_as, joined_by, join_first, with_child, one_or, is_number, factors_as, factors_of, with_factors_of, product_row, number_as, number_of, scaled_term, both_terms, scaled_terms, scaled_as, scaled, scaled_pair, or_else, product_as, multiplied}
-use Rattle.cv_simplify.specs.Checked.{only_if, within, number_factor, other_factor, factor_as, with_factor, term_scaled_as, term_scaled, with_scaled, further, is_num, and_num, all_nums, scaled_as_within, scaled_within, other_scaled, product_with, shown, is_shown}
+use Rattle.cv_simplify.specs.Checked.{only_if, within, factor_as, with_factor, term_scaled_as, with_scaled, further, is_num, and_num, all_nums, scaled_as_within, scaled_within, product_with, shown, is_shown}
 use Rattle.cv_simplify.proofs.Folds.{stays}
 use Rattle.cv_simplify.proofs.InRange.{inside-roll, inside-Num, inside-Sum, inside-Product, and_true, both_true, option_only_if}
 

@@ -1,33 +1,33 @@
 -- What is made step by step is the simplified form exactly where the calculation is in range.
-use Rattle.std.specs.Prelude.{Bool, true, false, ◌&&◌, List, [], ◌∷◌, ◌++◌, fold, map, Option, Some, None, option_map, if◌then◌else◌}
+use Rattle.std.specs.Prelude.{Bool, true, false, ◌&&◌, List, [], ◌∷◌, fold, map, Option, Some, None, option_map, if◌then◌else◌}
 use Rattle.std.specs.Option.{option_and_then}
 use Rattle.std.proofs.Common.{◌≡◌, refl, sym, ◌∙◌, ap, ap₂}
 use Rattle.cv_ratio.specs.Ratio.{Ratio, mul}
-use Rattle.cv_ratio.specs.Order.{lesser, greater, at_most}
+use Rattle.cv_ratio.specs.Order.{lesser, greater}
 use Rattle.cv_frac.specs.Bounded.{in_bounds}
 use Rattle.cv_calc.specs.Factor.{canonical, factor, hundredth, sizes_of}
 use Rattle.cv_calc.specs.declared.unit.Unit as units
-use Rattle.cv_calc.specs.declared.unit.Unit.TheVariants.{Number, Percent, Px}
+use Rattle.cv_calc.specs.declared.unit.Unit.TheVariants.{Percent, Px}
 use Rattle.cv_calc.specs.declared.context.Basis.{Basis}
 use Rattle.cv_calc.specs.declared.context.Basis.TheVariants.{Plain, Length, Of}
 use Rattle.cv_calc.specs.declared.context.Context.{Context}
 use Rattle.cv_calc.specs.declared.calc.Calc.{Calc}
 use Rattle.cv_calc.specs.declared.calc.Calc.TheVariants as tree
-use Rattle.cv_calc.specs.declared.calc.Calc.TheOpen.{Calc-F, Num, Sum, Product, Negate, Invert, Min, Max, Clamp}
+use Rattle.cv_calc.specs.declared.calc.Calc.TheOpen.{Calc-F}
 use Rattle.cv_calc.specs.declared.calc.Calc.TheViews.{out-Calc, roll-Calc, roll-out-Calc}
-use Rattle.cv_calc.specs.declared.calc.Calc.TheFolds.{fold-Calc, fold-roll-Calc, map-Calc}
+use Rattle.cv_calc.specs.declared.calc.Calc.TheFolds.{fold-roll-Calc, map-Calc}
 use Rattle.cv_calc.specs.Tree.{Each, by_cases, fold-Num, fold-Sum, fold-Product, fold-Negate, fold-Invert, fold-Min, fold-Max, fold-Clamp}
 use Rattle.cv_simplify.specs.declared.joining.Joining.{Joining}
 use Rattle.cv_simplify.specs.declared.joining.Joining.TheVariants as joining
 use Rattle.cv_simplify.specs.declared.factors.Factors.{Factors}
 use Rattle.cv_simplify.specs.declared.factors.Factors.TheVariants.{Plain}
-use Rattle.cv_simplify.specs.Counted.{inside, all_inside, all_true, Counted, counted, counted_step, counted_below, simple_of, is_in_range, children_in_range, prefixes_inside}
-use Rattle.cv_simplify.specs.Simplified.{percent_in, number_in, negated, negated_as, inverted, inverted_as, inverse_or, one_or, joined_as, joined_by, with_child as row_with, join_first, with_terms_of, sum_row, summed, factors_of, with_factors_of, product_row, product_as, multiplied, compares_percent, may_compare, choice_row, number_clamped_as, number_clamped, clamped_as, clamped, simp, simp_step}
-use Rattle.cv_simplify.specs.Checked.{only_if, within, literal_within, number_within, percent_within, length_within, with_simple, with_term, further, row_within, with_factor, with_child, factors_within, shown, is_shown, clamped_within, checked, checked_step}
+use Rattle.cv_simplify.specs.Counted.{inside, all_inside, Counted, counted, counted_step, counted_below, simple_of, is_in_range, children_in_range, prefixes_inside}
+use Rattle.cv_simplify.specs.Simplified.{percent_in, number_in, negated, inverted, one_or, with_terms_of, sum_row, summed, factors_of, with_factors_of, product_as, multiplied, compares_percent, may_compare, choice_row, clamped, simp, simp_step}
+use Rattle.cv_simplify.specs.Checked.{only_if, within, number_within, percent_within, with_simple, with_term, further, with_factor, with_child, shown, is_shown, clamped_within, checked}
 use Rattle.cv_simplify.proofs.Folds.{stays}
 use Rattle.cv_simplify.proofs.Steps.{checked-Num, checked-Sum, checked-Product, checked-Negate, checked-Invert, checked-Min, checked-Max, checked-Clamp}
-use Rattle.cv_simplify.proofs.Settled.{settled, simp_settled}
-use Rattle.cv_simplify.proofs.InRange.{inside-roll, inside-Num, inside-Sum, inside-Negate, inside-Invert, inside-Min, inside-Max, inside-Clamp, and_true, both_true, option_only_if, join_of, further_row, term_checked}
+use Rattle.cv_simplify.proofs.Settled.{simp_settled}
+use Rattle.cv_simplify.proofs.InRange.{inside-Num, inside-Min, inside-Max, and_true, both_true, option_only_if, further_row, term_checked}
 use Rattle.cv_simplify.proofs.SumRange.{child_checked, rows_inside, inside_summed, sum_prefixes, last_inside}
 use Rattle.cv_simplify.proofs.ProductRange.{row_of, IsGood, child_row, shown_is, is_shown_if, products_inside, product_prefixes}
 use Rattle.cv_simplify.proofs.Bounds.{inside_negated, inside_inverted, inside_clamped, lesser_in, greater_in, chosen_row}

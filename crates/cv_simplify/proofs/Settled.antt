@@ -1,7 +1,6 @@
 -- In a simplified calculation the numbers of each sum have units that differ in pairs.
-use Rattle.std.specs.Prelude.{Bool, true, false, ◌&&◌, not, List, [], ◌∷◌, ◌++◌, fold, map, Option, Some, None, option_map, if◌then◌else◌}
+use Rattle.std.specs.Prelude.{Bool, true, false, ◌&&◌, List, [], ◌∷◌, fold, map, Option, Some, None, option_map, if◌then◌else◌}
 use Rattle.std.proofs.Common.{◌≡◌, refl, sym, ◌∙◌, ap, ap₂}
-use denote.Enum.Bare.{sameb}
 use Rattle.cv_ratio.specs.Ratio.{Ratio, add, mul, neg, reciprocal}
 use Rattle.cv_ratio.specs.Order.{lesser, greater}
 use Rattle.cv_calc.specs.declared.unit.Unit as units
@@ -14,9 +13,9 @@ use Rattle.cv_calc.specs.declared.calc.Calc.TheVariants as tree
 use Rattle.cv_calc.specs.declared.calc.Calc.TheOpen.{Calc-F, Num, Sum, Product, Negate, Invert, Min, Max, Clamp}
 use Rattle.cv_calc.specs.declared.calc.Calc.TheViews.{out-Calc, roll-Calc, roll-out-Calc}
 use Rattle.cv_calc.specs.declared.calc.Calc.TheFolds.{fold-Calc, fold-roll-Calc, map-Calc}
-use Rattle.cv_calc.specs.Tree.{Each, by_cases, fold-Num, fold-Sum, fold-Product, fold-Negate, fold-Invert, fold-Min, fold-Max, fold-Clamp, out-Num}
-use Rattle.cv_calc.specs.Unit.{same_unit, same_unit-true}
-use Rattle.cv_simplify.specs.Simplified.{percent_in, number_in, negated_as, negated, inverse_or, inverted_as, inverted, joined_as, joined_by, join_first, with_child, one_or, any_unit, terms_as, terms_of, with_terms_of, sum_row, summed, factors_as, factors_of, is_number, with_factors_of, product_row, scaled_term, both_terms, scaled_terms, scaled_as, scaled, number_of, scaled_pair, or_else, product_as, multiplied, compares_percent, may_compare, choice_row, number_clamped, clamped_as, clamped, simp, simp_step}
+use Rattle.cv_calc.specs.Tree.{Each, by_cases, fold-Num, fold-Sum, fold-Product, fold-Negate, fold-Invert, fold-Min, fold-Max, fold-Clamp}
+use Rattle.cv_calc.specs.Unit.{same_unit}
+use Rattle.cv_simplify.specs.Simplified.{percent_in, number_in, negated_as, inverse_or, inverted_as, joined_as, joined_by, join_first, with_child, one_or, any_unit, terms_as, terms_of, with_terms_of, sum_row, summed, factors_as, factors_of, is_number, with_factors_of, product_row, scaled_term, both_terms, scaled_terms, scaled_as, scaled, number_of, scaled_pair, or_else, product_as, multiplied, compares_percent, may_compare, clamped_as, simp, simp_step}
 
 -- ---- the unit of a number, and whether two are numbers of one unit
 

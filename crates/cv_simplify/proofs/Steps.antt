@@ -1,5 +1,5 @@
 -- The equations of the simplified form as it is made.
-use Rattle.std.specs.Prelude.{List, map, Option, option_map}
+use Rattle.std.specs.Prelude.{List, map, option_map}
 use Rattle.std.specs.Option.{option_and_then}
 use Rattle.std.proofs.Common.{◌≡◌}
 use Rattle.cv_ratio.specs.Ratio.{Ratio}

@@ -1,22 +1,20 @@
 -- A sum's row goes out of bounds at a term exactly where it is out of bounds with all terms of that child.
-use Rattle.std.specs.Prelude.{Bool, true, false, ◌&&◌, ◌||◌, not, List, [], ◌∷◌, ◌++◌, fold, map, Option, Some, None, option_map, if◌then◌else◌}
+use Rattle.std.specs.Prelude.{Bool, true, false, ◌&&◌, not, List, [], ◌∷◌, ◌++◌, fold, Option, Some, None, if◌then◌else◌}
 use Rattle.std.proofs.Common.{◌≡◌, refl, sym, ◌∙◌, ap, ap₂}
-use Rattle.cv_ratio.specs.Ratio.{Ratio, add}
+use Rattle.cv_ratio.specs.Ratio.{add}
 use Rattle.cv_calc.specs.declared.unit.Unit as units
-use Rattle.cv_calc.specs.declared.context.Context.{Context}
 use Rattle.cv_calc.specs.declared.calc.Calc.{Calc}
 use Rattle.cv_calc.specs.declared.calc.Calc.TheVariants as tree
-use Rattle.cv_calc.specs.declared.calc.Calc.TheOpen.{Calc-F, Num, Sum, Product, Negate, Invert, Min, Max, Clamp}
+use Rattle.cv_calc.specs.declared.calc.Calc.TheOpen.{Calc-F, Num, Sum}
 use Rattle.cv_calc.specs.declared.calc.Calc.TheViews.{out-Calc, roll-Calc, roll-out-Calc}
-use Rattle.cv_calc.specs.declared.calc.Calc.TheFolds.{map-Calc}
 use Rattle.cv_calc.specs.Unit.{same_unit, same_unit-true}
 use Rattle.cv_simplify.specs.declared.joining.Joining.TheVariants as joining
 use Rattle.cv_simplify.specs.Counted.{inside, all_inside, longer_inside, prefixes_inside}
-use Rattle.cv_simplify.specs.Simplified.{joined_as, joined_by, join_first, with_child, any_unit, terms_as, terms_of, with_terms_of, sum_row, summed, one_or}
-use Rattle.cv_simplify.specs.Checked.{only_if, with_term, with_further, with_terms, with_simple, further}
+use Rattle.cv_simplify.specs.Simplified.{joined_as, join_first, with_child, any_unit, terms_as, terms_of, with_terms_of, sum_row, summed, one_or}
+use Rattle.cv_simplify.specs.Checked.{only_if, with_further, with_terms, with_simple}
 use Rattle.cv_simplify.proofs.Folds.{stays}
-use Rattle.cv_simplify.proofs.InRange.{inside-roll, inside-Num, inside-Sum, and_true, both_true, option_only_if, join_of, term_checked}
-use Rattle.cv_simplify.proofs.Settled.{known, Known, known-roll, known_step, kind, kinds_of, same_kind, none_of, differ, joined_is, joins, settled, all_settled, terms_settled}
+use Rattle.cv_simplify.proofs.InRange.{inside-roll, inside-Sum, and_true, both_true, term_checked}
+use Rattle.cv_simplify.proofs.Settled.{known, Known, known-roll, kind, kinds_of, same_kind, none_of, differ, joined_is, joins, settled, terms_settled}
 
 -- an item is out of bounds and has the unit
 abbrev spoils : Option units.Unit → Calc → Bool

@@ -1,8 +1,5 @@
-use Rattle.std.specs.Prelude.{Some, None, [], List}
-use Rattle.std.proofs.Common.{◌∙◌, sym, ap, ap₂}
-use Rattle.cv_calc.specs.declared.calc.Calc.{Calc}
-use Rattle.cv_simplify.specs.Checked.{with_scaled, term_scaled, further}
-use Rattle.cv_simplify.proofs.Folds.{absorbed_here}
+use Rattle.std.proofs.Common.{◌∙◌, sym, ap}
+use Rattle.cv_simplify.specs.Checked.{term_scaled}
 use Rattle.cv_simplify.proofs.Rows.{scaled_ends}
 use Rattle.cv_simplify.proofs.factors.terms_scaled.Goals as goal
 

@@ -1,6 +1,6 @@
 use Rattle.std.proofs.Common.{◌∙◌, sym, ap}
 use Rattle.cv_simplify.specs.Checked.{joined_within}
-use Rattle.cv_simplify.proofs.Rows.{passed-zero, passed-suc, passed-set, passed-outside, passed-end}
+use Rattle.cv_simplify.proofs.Rows.{passed-suc, passed-set, passed-outside, passed-end}
 use Rattle.cv_simplify.proofs.row.place_of.Goals as goal
 
 pub returns-in-One : goal.returns-in-One

@@ -1,7 +1,7 @@
 use Rattle.std.proofs.Common.{◌∙◌, ap}
 use Rattle.std.proofs.lemmas.Result.{IfOk-weaker}
 use Rattle.cv_simplify.specs.declared.place.Place.TheVariants.{Whole, Argument}
-use Rattle.cv_simplify.specs.Text.{Written, written}
+use Rattle.cv_simplify.specs.Text.{written}
 use Rattle.cv_calc.specs.declared.calc.Calc.{Calc}
 use Rattle.cv_simplify.proofs.Texts.{clamp_text}
 use Rattle.cv_simplify.proofs.text.+text.Goals as goal
