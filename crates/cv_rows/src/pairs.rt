@@ -7,8 +7,9 @@ use std::test::Fail;
 
 // A text of each kind of token that a clean list may hold, with the delimiters that the table of pairs names.
 const KINDS: [&str; 35] = [
-    "a", "--", "-a", "f(", "@a", "#a", "#1", "\"s\"", "url(u)", "#", "-", "+", ".", "@", "/", "<", "*", "%", "!",
-    ">", "1", "-1", "1%", "1px", "1e-", "1\\65 1", " ", "<!--", "-->", ":", ";", ",", "(", "]", "{",
+    "a", "--", "-a", "f(", "@a", "#a", "#1", "\"s\"", "url(u)", "#", "-", "+", ".", "@", "/", "<",
+    "*", "%", "!", ">", "1", "-1", "1%", "1px", "1e-", "1\\65 1", " ", "<!--", "-->", ":", ";",
+    ",", "(", "]", "{",
 ];
 
 fn tokens_of(alloc: Global, text: &str) -> Result<Vec<Token>, OutOfMemory> {
