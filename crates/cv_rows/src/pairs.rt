@@ -31,13 +31,21 @@ fn is_read_back(alloc: Global, first: &str, second: &str) -> Result<bool, OutOfM
     Ok(again == pair)
 }
 
+// Whether the first token and whitespace are kept apart.
+fn joins_whitespace(tokens: &[Token]) -> bool {
+    match tokens.first() {
+        Some(first) => joins(first, &Token::White),
+        None => true,
+    }
+}
+
 #[test]
 fn pairs_are_read_back(rt: HostRuntime) -> Result<(), Fail> {
     for first in KINDS {
         for second in KINDS {
             if first != " " || second != " " {
                 let same = is_read_back(rt.alloc(), first, second)?;
-                assert!(rt; same, "{first:?} and {second:?}");
+                assert_eq!(rt; same, true, "{first:?} and {second:?}");
             }
         }
     }
@@ -46,8 +54,7 @@ fn pairs_are_read_back(rt: HostRuntime) -> Result<(), Fail> {
 
 #[test]
 fn whitespace_joins_nothing(rt: HostRuntime) -> Result<(), Fail> {
-    let alloc = rt.alloc();
-    let word = tokens_of(alloc, "a")?;
-    assert!(rt; !joins(&word[0], &Token::White));
+    let word = tokens_of(rt.alloc(), "a")?;
+    assert_eq!(rt; joins_whitespace(&word), false);
     Ok(())
 }
