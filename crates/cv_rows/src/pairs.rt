@@ -39,15 +39,22 @@ fn joins_whitespace(tokens: &[Token]) -> bool {
     }
 }
 
+// Whether the token, printed in front of each kind of token and read, is itself again, and so is the other.
+fn are_read_back(alloc: Global, first: &str) -> Result<bool, OutOfMemory> {
+    for second in KINDS {
+        let is_run = first == " " && second == " ";
+        if !is_run && !is_read_back(alloc, first, second)? {
+            return Ok(false);
+        }
+    }
+    Ok(true)
+}
+
 #[test]
 fn pairs_are_read_back(rt: HostRuntime) -> Result<(), Fail> {
     for first in KINDS {
-        for second in KINDS {
-            if first != " " || second != " " {
-                let same = is_read_back(rt.alloc(), first, second)?;
-                assert_eq!(rt; same, true, "{first:?} and {second:?}");
-            }
-        }
+        let same = are_read_back(rt.alloc(), first)?;
+        assert_eq!(rt; same, true);
     }
     Ok(())
 }
