@@ -7,7 +7,7 @@ use Rattle.cv_spec_text.specs.Splits.{IsSpelt}
 use Rattle.cv_spec_text.specs.declared.token.Token.{Token}
 use Rattle.cv_spec_text.specs.declared.token.Token.TheVariants.{Ident}
 use Rattle.cv_spec_element.specs.Words.{lone_keyword, keyword_of}
-use Rattle.cv_var.specs.References.{has_var}
+use Rattle.cv_var.specs.References.{has_var, HoldNoVar}
 use Rattle.cv_props.specs.declared.key.Key.{Key}
 use Rattle.cv_props.specs.declared.outcome.Outcome.{Outcome as Kept}
 use Rattle.cv_props.specs.declared.outcome.Outcome.TheVariants as kept
@@ -18,7 +18,7 @@ use Rattle.cv_props.specs.ValuationLaws.{OutcomesAreByKey}
 use Rattle.cv_props.specs.TableLaws.{PropertiesAreFound}
 use Rattle.cv_props.specs.declared.key.Key.TheVariants.{Custom}
 use Rattle.cv_spec_element.specs.Pieces.{Pieces, finish, token, reference, reference_or, value_or, joined, sub}
-use Rattle.cv_element.specs.Answers.{word_of, keyword_in, outcome_by, HoldNoVar}
+use Rattle.cv_element.specs.Answers.{word_of, keyword_in, outcome_by}
 use Rattle.cv_element.specs.Answers as answers
 use Rattle.cv_element.specs.Element.{lists_in, AreKept, ParentIsKept}
 use Rattle.cv_element.proofs.TokenKinds.{IsNoKeyword, ident_or_not, two_no_keyword}

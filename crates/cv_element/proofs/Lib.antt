@@ -11,3 +11,4 @@ pub mod Graphing
 pub mod Naming
 pub mod Whole
 pub mod Result
+pub mod Sorting

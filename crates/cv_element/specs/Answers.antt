@@ -3,8 +3,6 @@ use Rattle.std.specs.Prelude.{ℕ, ◌≡◌, ◌<◌, ◌≤◌, Bool, true, fa
 use Rattle.cv_spec_text.specs.Keywords.{is_word, is_css_wide_keyword}
 use Rattle.cv_spec_text.specs.declared.token.Token.{Token}
 use Rattle.cv_spec_text.specs.declared.token.Token.TheVariants.{Ident}
-use Rattle.cv_spec_element.specs.Pieces.{Pieces, finish, token, reference, reference_or}
-use Rattle.cv_var.specs.References.{is_var}
 use Rattle.cv_props.specs.declared.computed.Cause.{Cause}
 use Rattle.cv_props.specs.declared.computed.Cause.TheVariants.{Cycle, Missing, Limit}
 use Rattle.cv_props.specs.declared.outcome.Outcome.{Outcome}
@@ -37,10 +35,3 @@ by_name (Some name) trimmed inherited = if is_word (codes "initial") name then I
 -- what a list gives, where this is inherited
 abbrev pub outcome_by : List Token → Outcome → Outcome
 outcome_by list inherited = by_name (keyword_in (trim list)) (trim list) inherited
-
--- no token of the pieces is a `var(`: each of these is a reference
-abbrev pub HoldNoVar : Pieces (List ℕ) Token → Type 0
-HoldNoVar finish = Unit {0}
-HoldNoVar (token t rest) = (is_var t ≡ false) × HoldNoVar rest
-HoldNoVar (reference n rest) = HoldNoVar rest
-HoldNoVar (reference_or n fallback rest) = HoldNoVar fallback × HoldNoVar rest

@@ -1,5 +1,8 @@
 -- One element whose declared properties are unregistered names, and what is computed of it.
-use Rattle.std.specs.Prelude.{ℕ, ◌≡◌, ◌+◌, ◌≤◌, ◌↔◌, Bool, true, false, if◌then◌else◌, List, length, codes, Option, Some, None, Contains, slice_get}
+use Rattle.std.specs.Prelude.{ℕ, ◌≡◌, ◌≢◌, ◌+◌, ◌<◌, ◌≤◌, ◌↔◌, Bool, true, false, if◌then◌else◌, List, length, codes, Option, Some, None, Contains, slice_get}
+use Rattle.std.specs.Ordering.{nat_cmp}
+use Rattle.std.specs.declared.cmp.Ordering.TheVariants.{Greater}
+use Rattle.std.specs.Cmp.Lexicographic.{slice_cmp}
 use Rattle.std.specs.FinMap as map
 use Rattle.std.specs.Map.{keys_of}
 use Rattle.cv_spec_text.specs.Keywords.{is_word}
@@ -22,11 +25,10 @@ use Rattle.cv_props.specs.declared.key.Key.TheVariants.{Custom, Table}
 use Rattle.cv_props.specs.declared.outcome.Outcome.{Outcome as Kept}
 use Rattle.cv_props.specs.declared.outcome.Outcome.TheVariants as kept
 use Rattle.cv_props.specs.declared.property.Property.TheVariants.{FontSize}
-use Rattle.cv_props.specs.Keys.{same_key}
+use Rattle.cv_props.specs.Keys.{same_key, key_text}
 use Rattle.cv_props.specs.Valuations.{Values, MayKeep, outcome_at}
 use Rattle.cv_props.specs.Winners.{declaration_of}
 use Rattle.cv_props.specs.Winners as winners
-use Rattle.cv_element.specs.Answers.{HoldNoVar}
 
 -- the pieces of a list, with keys for the names of custom properties
 abbrev pub keyed : Pieces (List ℕ) Token → Pieces Key Token
@@ -105,6 +107,10 @@ Faults = List (Key × Reported)
 abbrev pub IsOnce : Faults → Type 0
 IsOnce faults = (i j : ℕ) (key : Key) (one other : Reported) → slice_get faults i ≡ Some (key, one) → slice_get faults j ≡ Some (key, other) → i ≡ j
 
+-- The keys come in byte order of their names as the report writes them (this project's own).
+abbrev pub IsByName : Faults → Type 0
+IsByName faults = (i j : ℕ) (first second : Key) (one other : Reported) → i < j → slice_get faults i ≡ Some (first, one) → slice_get faults j ≡ Some (second, other) → slice_cmp nat_cmp (key_text first) (key_text second) ≢ Greater
+
 -- what is computed of an element
 pub record IsComputed (decls : winners.Declarations) (parent : Option Values) (most : ℕ) (computed : Computed) : Type 0 where
   -- the values solve the equations
@@ -112,10 +118,7 @@ pub record IsComputed (decls : winners.Declarations) (parent : Option Values) (m
   -- the list tells which properties are invalid at computed-value time, and why
   pub faults : (key : Key) (cause : Reported) → Contains computed.faults (key, cause) ↔ IsInvalid (the_element decls parent most) (values_of computed.values) key (cause_of cause)
   pub once : IsOnce computed.faults
-
--- no token of a declared list is a `var(` that isn't a reference
-abbrev pub DeclareNoVar : winners.Declarations → Type 0
-DeclareNoVar decls = (key : Key) (declaration : Decl) → declaration_of decls key ≡ Some declaration → HoldNoVar (pieces_of declaration.value)
+  pub ordered : IsByName computed.faults
 
 -- The steps are at most the edges and nodes of a graph whose nodes are the declared names and whose edges are the references
 -- among them.

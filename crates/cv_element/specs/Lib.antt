@@ -2,3 +2,4 @@ pub mod Element
 pub mod Names
 pub mod Answers
 pub mod Settling
+pub mod FaultNames

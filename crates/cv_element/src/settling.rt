@@ -7,7 +7,7 @@ ghost use Rattle.cv_subst.specs.Values.{value_in};
 ghost use Rattle.cv_props.specs.declared.outcome.Outcome.TheVariants.{Invalid};
 ghost use Rattle.cv_props.specs.Keys.{is_custom_key};
 ghost use Rattle.cv_props.specs.Valuations.{values_of, outcome_at, with_outcome};
-ghost use Rattle.cv_element.specs.Answers.{IsAnswer, HoldNoVar, outcome_by};
+ghost use Rattle.cv_element.specs.Answers.{IsAnswer, outcome_by};
 ghost use Rattle.cv_element.specs.Element.{AreKept};
 ghost use Rattle.cv_element.specs.Settling.{IsLoaded, Settles};
 
@@ -164,10 +164,11 @@ pub fn settle(
     requires custom { is_custom name.now ≡ true }
     requires loaded { IsLoaded settling.old.runs settling.old.values }
     requires kept { AreKept settling.old.values }
-    requires plain { HoldNoVar (pieces_of declared.now) }
     ensures settles { OnOk result (Settles name.now declared.now is_cyclic limit settling.old settling.new) }
     ensures kept { OnOk result (AreKept settling.new.values) }
 {
+    // no token of its pieces is a `var(`
+    declared.tokens();
     let key = Key::Custom(name.copy()?);
     let answer = answer_for(
         alloc,

@@ -10,10 +10,11 @@ ghost use Rattle.cv_props.specs.declared.computed.Cause.{Cause as Reported};
 ghost use Rattle.cv_props.specs.declared.key.Key.{Key};
 ghost use Rattle.cv_props.specs.declared.key.Key.TheVariants.{Custom};
 ghost use Rattle.cv_props.specs.Winners.{declaration_of};
-ghost use Rattle.cv_element.specs.Element.{the_element, values_of, cause_of, AreKept, ParentIsKept, DeclareNoVar, IsOnce, IsComputed, CountsReferences};
+ghost use Rattle.cv_element.specs.Element.{the_element, values_of, cause_of, AreKept, ParentIsKept, IsOnce, IsByName, IsComputed, CountsReferences};
 ghost use Rattle.cv_element.specs.Names.{name_at};
 ghost use Rattle.cv_element.specs.Settling.{start_of, IsLoaded, Settles, IsPlan, IsSettling};
 
+use crate::faults::by_name;
 use crate::graph::references;
 use crate::names::{declared_names, key_at};
 use crate::refusal::ElemErr;
@@ -32,6 +33,7 @@ use std::alloc::Global;
 use std::sync::ledger::Ledger;
 
 /// Where an element stands: the size of the viewport, in pixels.
+#[derive(Debug, Clone, Copy)]
 pub struct Place {
     pub width: u32,
     pub height: u32,
@@ -70,7 +72,6 @@ fn settle_at(
     requires number { number < length names.now.keys }
     requires declared { IsSome (declaration_of decls.now (Custom (name_at names.now.keys number))) }
     requires custom { is_custom (name_at names.now.keys number) ≡ true }
-    requires plain { DeclareNoVar decls.now }
     requires loaded { IsLoaded settling.old.runs settling.old.values }
     requires kept { AreKept settling.old.values }
     ensures settles { OnOk result (IfSome (declaration_of decls.now (Custom (name_at names.now.keys number))) (λ declaration. Settles (name_at names.now.keys number) declaration.value is_cyclic limit settling.old settling.new)) }
@@ -99,7 +100,6 @@ fn settle_all(
     requires flags { length order.now.cyclic.items ≡ length names.now.keys }
     requires plan { IsPlan decls.now (option_copied parent) limit names.now.keys order.now.nodes.items order.now.cyclic.items }
     requires custom { (name : List ℕ) → Contains names.now.keys name → is_custom name ≡ true }
-    requires plain { DeclareNoVar decls.now }
     requires begun { IsSettling decls.now (option_copied parent) limit names.now.keys order.now.nodes.items (start_of (option_copied parent)) 0 settling.old }
     requires kept { AreKept settling.old.values }
     ensures settled { OnOk result (IsSettling decls.now (option_copied parent.entry) limit names.now.keys order.now.nodes.items (start_of (option_copied parent.entry)) (length names.now.keys) settling.new) }
@@ -125,7 +125,8 @@ fn settle_all(
 /// The values of an element and its invalid properties: the one solution of its equations (Cascading Variables 1). The keys
 /// of the declarations are names of custom properties, and none is registered.
 ///
-/// The parent's values are kept ones, and so are the answer's. `faults` come in the order in which the names are settled.
+/// The parent's values are kept ones, and so are the answer's. `faults` come in byte order of their names as the report
+/// writes them.
 ///
 /// The limit is the most tokens that a list may have after substitution. `steps` counts what the search for cycles reads.
 pub fn element<L: Ledger>(
@@ -140,11 +141,11 @@ pub fn element<L: Ledger>(
     requires some { 1 ≤ limit }
     requires most { limit ≤ 32768 }
     requires parent { ParentIsKept (option_copied parent) }
-    requires plain { DeclareNoVar decls.now }
     ensures solves { IfOk result (λ computed. IsValuation (the_element decls.now (option_copied parent.entry) limit) (values_of computed.values)) }
     ensures only { IfOk result (λ computed. (other : Key → Outcome Token ⊥) → IsValuation (the_element decls.now (option_copied parent.entry) limit) other → (key : Key) → other key ≡ values_of computed.values key) }
     ensures faults { IfOk result (λ computed. (key : Key) (cause : Reported) → Contains computed.faults (key, cause) ↔ IsInvalid (the_element decls.now (option_copied parent.entry) limit) (values_of computed.values) key (cause_of cause)) }
     ensures once { IfOk result (λ computed. IsOnce computed.faults) }
+    ensures ordered { IfOk result (λ computed. IsByName computed.faults) }
     ensures computed { IfOk result (IsComputed decls.now (option_copied parent.entry) limit) }
     ensures kept { IfOk result (λ computed. AreKept computed.values) }
     ensures counted { steps.old ≤ steps.new }
@@ -159,8 +160,9 @@ pub fn element<L: Ledger>(
     let order = ordered(alloc, &graph, steps)?;
     let mut settling = begun(alloc, parent)?;
     settle_all(alloc, decls, parent, &names, &order, limit, &mut settling)?;
+    let faults = by_name(alloc, settling.faults.as_slice())?;
     Ok(Computed {
         values: settling.values,
-        faults: settling.faults,
+        faults,
     })
 }

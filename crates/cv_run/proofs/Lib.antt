@@ -1,3 +1,5 @@
-pub mod Reading
+pub mod Given
+pub mod Naming
+pub mod Stepping
 pub mod Taken
-pub mod Texts
+pub mod Walked

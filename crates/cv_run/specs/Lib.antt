@@ -1,6 +1,9 @@
-pub mod Document
-pub mod FirstForm
+pub mod Building
+pub mod Fates
+pub mod Names
 pub mod Outcome
-pub mod Report
 pub mod StatusLines
-pub mod Words
+pub mod Styles
+pub mod Telling
+pub mod Tree
+pub mod Walking

@@ -1,68 +1,76 @@
--- What a run comes to: the text of its input, and what was written of it by each status.
-use Rattle.std.specs.Prelude.{ℕ, ◌≡◌, ◌⊎◌, List, [], Option, None, option_and_then, unwrap_or, IsSome, IsSomeAnd, nat_le, length, if◌then◌else◌}
-use Rattle.std.specs.Io.KnownBytes.{Appends, IsAtEnd}
-use Rattle.cv_io.specs.Streams.{GaveMoreThan}
-use Rattle.cv_run.specs.Words.{IsCompute}
-use Rattle.serde_json.specs.Data.{Data}
-use Rattle.cv_run.specs.Document.{json_of, style_of}
-use Rattle.cv_run.specs.Report.{report_of_style}
+-- What a run comes to, by each status, and what it wrote.
+use Rattle.std.specs.Prelude.{ℕ, ◌≡◌, ◌⊎◌, List, Option, None, Some, IsSomeAnd}
+use Rattle.std.specs.Io.KnownBytes.{Appends, Keeps}
+use Rattle.cv_io.specs.Streams.{TookPrefix}
+use Rattle.cv_doc.specs.Reading.{Shape}
+use Rattle.cv_doc.specs.declared.refusal.What.TheVariants.{Bytes, Elements, Show, Commands, Names}
+use Rattle.cv_words.specs.Words.{HasWords, IsRefused}
+use Rattle.cv_words.specs.declared.words.Words.{Words}
+use Rattle.cv_run.specs.Fates.{Fate, computed, fate_of, malformed, too_large, unbuilt}
+use Rattle.cv_run.specs.Tree.{IsReport}
 use Rattle.cv_run.specs.declared.status.Status.{Status}
-use Rattle.cv_run.specs.declared.status.Status.TheVariants.{Done, Usage, ReadFault, Unbuilt, WriteFault, NoMemory}
+use Rattle.cv_run.specs.declared.status.Status.TheVariants.{Done, Usage, ReadFault, TooLarge, Malformed, Unbuilt, WriteFault, NoMemory}
 
--- the longest input that is built so far
-abbrev pub most_bytes : ℕ
-most_bytes = 65536
+-- The words say something: these are a job and numbers of their kinds and ranges.
+abbrev pub AreRead : List (List ℕ) → Type 0
+AreRead words = (read : Words) × HasWords words read
 
--- the report of a document
-abbrev pub report_of_json : Data → Option (List ℕ)
-report_of_json d = option_and_then report_of_style (style_of d)
+-- the text of the report of an input, under the limit of the words
+pub record IsText (words : List (List ℕ)) (given text : List ℕ) : Type 0 where
+  pub read : Words
+  pub has_words : HasWords words read
+  pub document : Shape
+  pub document_given : fate_of given ≡ computed document
+  pub report : IsReport document read.limit text
 
--- the report of what a source gave, or none where its form isn't built
-unfoldable pub report_of : List ℕ → Option (List ℕ)
-report_of given =
-    if nat_le (length given) most_bytes
-    then option_and_then report_of_json (json_of given)
-    else None
+-- the sink took the report and nothing else
+abbrev pub HasWritten : List (List ℕ) → List ℕ → Option (List ℕ) → Option (List ℕ) → Type 0
+HasWritten words given old new = (text : List ℕ) × IsText words given text × Appends old new text
 
--- the text of an input, empty where none is defined
-abbrev pub text_of : List ℕ → List ℕ
-text_of given = unwrap_or (report_of given) []
-
--- `out` took the text, where one is defined, and nothing else
-abbrev pub HasWritten : Option (List ℕ) → Option (List ℕ) → Option (List ℕ) → Type 0
-HasWritten text old new = IsSomeAnd text (Appends old new)
-
--- The source was read to its end, or gave more than is built.
-abbrev pub WasRead : Option (List ℕ) → Option (List ℕ) → Type 0
-WasRead old new = IsAtEnd new ⊎ GaveMoreThan old new most_bytes
+-- the sink took a front of the report, or nothing
+abbrev pub HasWrittenFront : List (List ℕ) → List ℕ → Option (List ℕ) → Option (List ℕ) → Type 0
+HasWrittenFront words given old new = Keeps old new ⊎ ((text : List ℕ) × IsText words given text × TookPrefix old new text)
 
 -- the statuses with which nothing was written
 abbrev pub WritesNothing : Status → Type 0
 WritesNothing Done = ⊥
-WritesNothing Usage = Unit {0}
-WritesNothing ReadFault = Unit {0}
-WritesNothing Unbuilt = Unit {0}
 WritesNothing WriteFault = ⊥
 WritesNothing NoMemory = ⊥
+WritesNothing _ = Unit {0}
 
--- the statuses with which the text may be cut short
+-- the statuses with which the report may be cut short
 abbrev pub IsCutShort : Status → Type 0
-IsCutShort Done = ⊥
-IsCutShort Usage = ⊥
-IsCutShort ReadFault = ⊥
-IsCutShort Unbuilt = ⊥
 IsCutShort WriteFault = Unit {0}
 IsCutShort NoMemory = Unit {0}
+IsCutShort _ = ⊥
 
--- The words are read, no read or write failed, and the input has a report: all that a run needs but memory.
+-- the statuses that tell of a document, and so come only once the input was read to its end
+abbrev pub TellsOfDocument : Status → Type 0
+TellsOfDocument Done = Unit {0}
+TellsOfDocument Unbuilt = Unit {0}
+TellsOfDocument (Malformed why) = Unit {0}
+TellsOfDocument (TooLarge Bytes) = ⊥
+TellsOfDocument (TooLarge _) = Unit {0}
+TellsOfDocument _ = ⊥
+
+-- the statuses that come of an input; want of memory may come of each
+abbrev pub ComesOf : Fate → Status → Type 0
+ComesOf (too_large what) status = (status ≡ TooLarge what) ⊎ (status ≡ NoMemory)
+ComesOf (malformed why) status = (status ≡ Malformed why) ⊎ (status ≡ NoMemory)
+ComesOf unbuilt status = (status ≡ Unbuilt) ⊎ (status ≡ NoMemory)
+ComesOf (computed document) status = (status ≡ Done) ⊎ (status ≡ WriteFault) ⊎ (status ≡ NoMemory)
+
+-- The words are taken, and no read failed.
+pub record IsSound (words : List (List ℕ)) (source_failed : Type 0) : Type 0 where
+  pub words_taken : ¬ (IsRefused words)
+  pub source_sound : ¬ source_failed
+
+-- the input is computed
+abbrev pub IsComputable : List ℕ → Type 0
+IsComputable given = (document : Shape) × (fate_of given ≡ computed document)
+
+-- The words are taken, no read or write failed, and the input is computed: all that a run needs but memory.
 pub record HasAllButMemory (words : List (List ℕ)) (given : Option (List ℕ)) (source_failed sink_failed : Type 0) : Type 0 where
-  pub words_read : IsCompute words
-  pub source_sound : ¬ source_failed
+  pub sound : IsSound words source_failed
   pub sink_sound : ¬ sink_failed
-  pub report : IsSomeAnd given (λ bytes. IsSome (report_of bytes))
-
--- The words are read, no read failed, and the input has no report.
-pub record HasNoReport (words : List (List ℕ)) (given : Option (List ℕ)) (source_failed : Type 0) : Type 0 where
-  pub words_read : IsCompute words
-  pub source_sound : ¬ source_failed
-  pub report : IsSomeAnd given (λ bytes. report_of bytes ≡ None)
+  pub input : IsSomeAnd given IsComputable

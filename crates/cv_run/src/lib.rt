@@ -1,14 +1,17 @@
 //! The top call: words and a document in, a report and a status out.
 #![tactic(auto)]
 
-mod document;
+mod contents;
+mod names;
 mod report;
 mod running;
 mod status;
-mod style;
+mod status_line;
+mod styles;
 #[cfg(test)]
 mod tests;
-mod words;
+mod tree;
 
+pub use cv_doc::{BadDoc, What};
 pub use running::run;
 pub use status::Status;

@@ -1,22 +1,23 @@
 // The top call.
-ghost use Rattle.std.specs.Prelude.{◌≡◌, ◌≤◌, ◌⊎◌, IfSome, IsSomeAnd, IsSome, OnErr, IfOk, IfErr, IsErrOf, None, Some, length, option_map};
+ghost use Rattle.std.specs.Prelude.{◌≡◌, ◌≤◌, ◌⊎◌, IfSome, IfOk, IfErr, length};
 ghost use Rattle.std.specs.Io.KnownBytes.{Appends, IsAtEnd, Keeps};
 ghost use Rattle.cv_io.specs.Causes.{Rose};
 ghost use Rattle.cv_io.specs.Streams.{TookPrefix};
-ghost use Rattle.cv_run.specs.Outcome.{report_of, report_of_json, text_of, HasAllButMemory, HasNoReport, HasWritten, WasRead, IsCutShort, WritesNothing};
-ghost use Rattle.serde_json.specs.View.{view};
+ghost use Rattle.cv_words.specs.Words.{IsRefused, texts_of};
+ghost use Rattle.cv_run.specs.Fates.{fate_of, malformed, too_large, unbuilt};
+ghost use Rattle.cv_run.specs.Outcome.{AreRead, ComesOf, HasAllButMemory, HasWritten, HasWrittenFront, IsCutShort, IsSound, TellsOfDocument, WritesNothing};
 ghost use Rattle.cv_run.specs.StatusLines.{line_of};
-ghost use Rattle.cv_run.specs.Words.{IsCompute, texts_of};
+ghost use Rattle.cv_run.specs.Telling.{EndsEarly, IsStopped, TellsOf, text_of};
 
-use crate::document::{read_json, style_in};
-use crate::report::report;
+use crate::report::{Report, report_of};
 use crate::status::Status;
-use crate::words::is_compute;
-use cv_io::{ReadErr, Sink, SinkErr, Source, put, read_all};
-use serde_json::Value;
-use std::alloc::{AllocError, Global};
+use cv_io::{ReadErr, Sink, SinkErr, Source, read_all};
+use cv_doc::{BadDoc, What};
+use cv_report::report;
+use cv_words::{WordsErr, read_words};
+use std::alloc::Global;
 
-const MOST_BYTES: usize = 65536;
+const MOST_BYTES: usize = 16777216;
 
 /// Reads a document from `src` and writes its report to `out`, by the words of the command line.
 /// Want of memory may come at each point, and has no clause.
@@ -29,36 +30,39 @@ pub fn run<S: Source, O: Sink, E: Sink>(
 ) -> Status
     // A run that is done has read all of its input, and has written the report of it and nothing else.
     ensures done { result ≡ Status.Done → IfSome (S.left src.old)
-        (λ given. HasWritten (report_of given) (O.taken out.old) (O.taken out.new)) }
-    ensures read_whole { result ≡ Status.Done → IsAtEnd (S.left src.new) }
+        (λ given. HasWritten (texts_of words.now.items) given (O.taken out.old) (O.taken out.new)) }
 
     // Each other status has its cause.
-    ensures usage { result ≡ Status.Usage → ¬ (IsCompute (texts_of words.now.items)) }
-    ensures words { (result ≡ Status.Usage) ⊎ IsCompute (texts_of words.now.items) }
+    ensures usage { result ≡ Status.Usage → IsRefused (texts_of words.now.items) }
+    ensures words { (result ≡ Status.Usage) ⊎ (result ≡ Status.NoMemory) ⊎ AreRead (texts_of words.now.items) }
     ensures read_fault { result ≡ Status.ReadFault → Rose (S.faults src.old) (S.faults src.new) }
-    ensures unbuilt { result ≡ Status.Unbuilt → IfSome (S.left src.old) (λ given. report_of given ≡ None) }
-    ensures unbuilt_read { result ≡ Status.Unbuilt → WasRead (S.left src.old) (S.left src.new) }
+    ensures too_large { (what : What) → result ≡ Status.TooLarge what → IfSome (S.left src.old) (λ given. fate_of given ≡ too_large what) }
+    ensures malformed { (why : BadDoc) → result ≡ Status.Malformed why → IfSome (S.left src.old) (λ given. fate_of given ≡ malformed why) }
+    ensures unbuilt { result ≡ Status.Unbuilt → IfSome (S.left src.old) (λ given. fate_of given ≡ unbuilt) }
     ensures write_fault { result ≡ Status.WriteFault → Rose (O.faults out.old) (O.faults out.new) }
 
-    // Where a run isn't done, `out` took a front part of the text or nothing.
+    // What tells of a document comes only once the input was read to its end.
+    ensures read_whole { TellsOfDocument result → IsAtEnd (S.left src.new) }
+
+    // Where a run isn't done, `out` took nothing, or at a fault of writing and for want of memory a front of the report.
     ensures untouched { WritesNothing result → Keeps (O.taken out.old) (O.taken out.new) }
     ensures cut_short { IsCutShort result → IfSome (S.left src.old)
-        (λ given. TookPrefix (O.taken out.old) (O.taken out.new) (text_of given)) }
+        (λ given. HasWrittenFront (texts_of words.now.items) given (O.taken out.old) (O.taken out.new)) }
 
-    // Words that are read, a source and a sink that don't fail and an input with a report give `Done`.
+    // Words that are taken and a source that doesn't fail give what comes of the input, and nothing else.
+    ensures refuses { IsSound (texts_of words.now.items) (Rose (S.faults src.old) (S.faults src.new))
+        → IfSome (S.left src.old) (λ given. ComesOf (fate_of given) result) }
+
+    // Words that are taken, streams that don't fail and an input that is computed give `Done`.
     ensures complete { HasAllButMemory (texts_of words.now.items) (S.left src.old)
         (Rose (S.faults src.old) (S.faults src.new)) (Rose (O.faults out.old) (O.faults out.new))
         → (result ≡ Status.Done) ⊎ (result ≡ Status.NoMemory) }
 
-    // Words that are read, a source that doesn't fail and an input without a report give `Unbuilt`.
-    ensures refuses { HasNoReport (texts_of words.now.items) (S.left src.old) (Rose (S.faults src.old) (S.faults src.new))
-        → (result ≡ Status.Unbuilt) ⊎ (result ≡ Status.NoMemory) }
-
-    // `err` took a front part of the status's line.
+    // `err` took a front of the status's line.
     ensures line { TookPrefix (E.taken err.old) (E.taken err.new) (line_of result) }
 {
     let status = answer(alloc, words, src, out);
-    let _ = put(err, status.line().as_bytes());
+    let _ = status.put_line(err);
     status
 }
 
@@ -66,90 +70,74 @@ pub fn run<S: Source, O: Sink, E: Sink>(
 fn answer<S: Source, O: Sink>(alloc: Global, words: &[String], src: &mut S, out: &mut O) -> Status
     // A run that is done has read all of its input, and has written the report of it and nothing else.
     ensures done { result ≡ Status.Done → IfSome (S.left src.old)
-        (λ given. HasWritten (report_of given) (O.taken out.old) (O.taken out.new)) }
-    ensures read_whole { result ≡ Status.Done → IsAtEnd (S.left src.new) }
+        (λ given. HasWritten (texts_of words.now) given (O.taken out.old) (O.taken out.new)) }
 
     // Each other status has its cause.
-    ensures usage { result ≡ Status.Usage → ¬ (IsCompute (texts_of words.now)) }
-    ensures words { (result ≡ Status.Usage) ⊎ IsCompute (texts_of words.now) }
+    ensures usage { result ≡ Status.Usage → IsRefused (texts_of words.now) }
+    ensures words { (result ≡ Status.Usage) ⊎ (result ≡ Status.NoMemory) ⊎ AreRead (texts_of words.now) }
     ensures read_fault { result ≡ Status.ReadFault → Rose (S.faults src.old) (S.faults src.new) }
-    ensures unbuilt { result ≡ Status.Unbuilt → IfSome (S.left src.old) (λ given. report_of given ≡ None) }
-    ensures unbuilt_read { result ≡ Status.Unbuilt → WasRead (S.left src.old) (S.left src.new) }
+    ensures too_large { (what : What) → result ≡ Status.TooLarge what → IfSome (S.left src.old) (λ given. fate_of given ≡ too_large what) }
+    ensures malformed { (why : BadDoc) → result ≡ Status.Malformed why → IfSome (S.left src.old) (λ given. fate_of given ≡ malformed why) }
+    ensures unbuilt { result ≡ Status.Unbuilt → IfSome (S.left src.old) (λ given. fate_of given ≡ unbuilt) }
     ensures write_fault { result ≡ Status.WriteFault → Rose (O.faults out.old) (O.faults out.new) }
 
-    // Where a run isn't done, `out` took a front part of the text or nothing.
+    // What tells of a document comes only once the input was read to its end.
+    ensures read_whole { TellsOfDocument result → IsAtEnd (S.left src.new) }
+
+    // Where a run isn't done, `out` took nothing, or at a fault of writing and for want of memory a front of the report.
     ensures untouched { WritesNothing result → Keeps (O.taken out.old) (O.taken out.new) }
     ensures cut_short { IsCutShort result → IfSome (S.left src.old)
-        (λ given. TookPrefix (O.taken out.old) (O.taken out.new) (text_of given)) }
+        (λ given. HasWrittenFront (texts_of words.now) given (O.taken out.old) (O.taken out.new)) }
 
-    // Words that are read, a source and a sink that don't fail and an input with a report give `Done`.
+    // Words that are taken and a source that doesn't fail give what comes of the input, and nothing else.
+    ensures refuses { IsSound (texts_of words.now) (Rose (S.faults src.old) (S.faults src.new))
+        → IfSome (S.left src.old) (λ given. ComesOf (fate_of given) result) }
+
+    // Words that are taken, streams that don't fail and an input that is computed give `Done`.
     ensures complete { HasAllButMemory (texts_of words.now) (S.left src.old)
         (Rose (S.faults src.old) (S.faults src.new)) (Rose (O.faults out.old) (O.faults out.new))
         → (result ≡ Status.Done) ⊎ (result ≡ Status.NoMemory) }
-
-    // Words that are read, a source that doesn't fail and an input without a report give `Unbuilt`.
-    ensures refuses { HasNoReport (texts_of words.now) (S.left src.old) (Rose (S.faults src.old) (S.faults src.new))
-        → (result ≡ Status.Unbuilt) ⊎ (result ≡ Status.NoMemory) }
 {
-    if !is_compute(words) {
-        return Status::Usage;
-    }
-    match prepare(alloc, src) {
-        Ok(text) => write_text(out, &text),
+    let read = match read_words(alloc, words) {
+        Ok(read) => read,
+        Err(WordsErr::Refused) => return Status::Usage,
+        Err(WordsErr::Memory) => return Status::NoMemory,
+    };
+    match prepare(alloc, src, read.limit) {
+        Ok(prepared) => write_report(alloc, &prepared, out),
         Err(status) => status,
     }
 }
 
-// The text of what the source gives.
-fn prepare<S: Source>(alloc: Global, src: &mut S) -> Result<Vec<u8>, Status>
-    ensures text { IfOk result (λ text. IfSome (S.left src.old) (λ given. report_of given ≡ Some text.items)) }
-    ensures read_whole { IfOk result (λ text. IsAtEnd (S.left src.new)) }
-    ensures read_fault { IsErrOf result Status.ReadFault → Rose (S.faults src.old) (S.faults src.new) }
-    ensures unbuilt { IsErrOf result Status.Unbuilt → IfSome (S.left src.old) (λ given. report_of given ≡ None) }
-    ensures unbuilt_read { IsErrOf result Status.Unbuilt → WasRead (S.left src.old) (S.left src.new) }
-    ensures others { IfErr result (λ status. (status ≡ Status.ReadFault) ⊎ (status ≡ Status.Unbuilt) ⊎ (status ≡ Status.NoMemory)) }
+// The report of what the source gives.
+fn prepare<S: Source>(alloc: Global, src: &mut S, limit: u32) -> Result<Report, Status>
+    requires least { 1 ≤ limit }
+    requires most { limit ≤ 32768 }
+    ensures tells { IfOk result (λ report. IfSome (S.left src.old) (λ given. TellsOf (fate_of given) limit report)) }
+    ensures few { IfOk result (λ report. length report.all.items ≤ 16384) }
+    ensures read_whole { IfOk result (λ report. IsAtEnd (S.left src.new)) }
+    ensures refused { IfErr result (λ status. IsStopped (S.left src.old) (Rose (S.faults src.old) (S.faults src.new)) status) }
+    ensures early { IfErr result EndsEarly }
+    ensures read_before { IfErr result (λ status. TellsOfDocument status → IsAtEnd (S.left src.new)) }
 {
     let bytes = match read_all(alloc, src, MOST_BYTES) {
         Ok(bytes) => bytes,
         Err(ReadErr::Failed) => return Err(Status::ReadFault),
-        Err(ReadErr::TooLong) => return Err(Status::Unbuilt),
+        Err(ReadErr::TooLong) => return Err(Status::TooLarge(What::Bytes)),
         Err(ReadErr::Memory) => return Err(Status::NoMemory),
     };
-    match report_of_document(alloc, &bytes)? {
-        Some(text) => Ok(text),
-        None => Err(Status::Unbuilt),
-    }
-}
-
-// The report of a document, or `None` where its form isn't built.
-#[tactic(auto, using(crate::proofs::Reading::report_of_short))]
-fn report_of_document(alloc: Global, bytes: &[u8]) -> Result<Option<Vec<u8>>, AllocError>
-    requires { length bytes.now ≤ 65536 }
-    ensures { IfOk result (λ text. option_map (λ bytes. bytes.items) text ≡ report_of bytes.now) }
-{
-    match read_json(alloc, bytes)? {
-        Some(value) => report_of_value(alloc, &value),
-        None => Ok(None),
-    }
-}
-
-fn report_of_value(alloc: Global, value: &Value) -> Result<Option<Vec<u8>>, AllocError>
-    ensures { IfOk result (λ text. option_map (λ bytes. bytes.items) text ≡ report_of_json (view value.now)) }
-{
-    match style_in(value) {
-        Some(style) => report(alloc, style),
-        None => Ok(None),
-    }
+    report_of(alloc, &bytes, limit)
 }
 
 // The last stage.
-fn write_text<O: Sink>(out: &mut O, text: &[u8]) -> Status
-    ensures done { result ≡ Status.Done → Appends (O.taken out.old) (O.taken out.new) text.now }
-    ensures cut_short { IsCutShort result → TookPrefix (O.taken out.old) (O.taken out.new) text.now }
+fn write_report<O: Sink>(alloc: Global, prepared: &Report, out: &mut O) -> Status
+    requires { length prepared.now.all.items ≤ 16384 }
+    ensures done { result ≡ Status.Done → Appends (O.taken out.old) (O.taken out.new) (text_of prepared.now) }
+    ensures cut_short { IsCutShort result → TookPrefix (O.taken out.old) (O.taken out.new) (text_of prepared.now) }
     ensures write_fault { result ≡ Status.WriteFault → Rose (O.faults out.old) (O.faults out.new) }
     ensures others { (result ≡ Status.Done) ⊎ (result ≡ Status.WriteFault) ⊎ (result ≡ Status.NoMemory) }
 {
-    match put(out, text) {
+    match report(alloc, &prepared.notes, &prepared.shown, &prepared.all, out) {
         Ok(()) => Status::Done,
         Err(SinkErr::Failed) => Status::WriteFault,
         Err(SinkErr::Memory) => Status::NoMemory,

@@ -1,18 +1,23 @@
 // How a run ended.
 ghost use Rattle.std.specs.Prelude.{◌≡◌};
-ghost use Rattle.cv_run.specs.StatusLines.{code_of, line_of};
+ghost use Rattle.cv_run.specs.StatusLines.{code_of};
 ghost use Rattle.cv_run.specs.declared.status.Status.TheVariants.{NoMemory};
 
+use cv_doc::{BadDoc, What};
 use std::alloc::AllocError;
 
-#[derive(Clone, Copy, Debug, PartialEq, Eq)]
+#[derive(Debug, PartialEq, Eq, Drop)]
 pub enum Status {
     /// All of the report was written.
     Done,
-    /// The words aren't the single word `compute`.
+    /// The words aren't taken.
     Usage,
     /// A read failed.
     ReadFault,
+    /// There is more than there may be of this part.
+    TooLarge(What),
+    /// The document is refused.
+    Malformed(BadDoc),
     /// The document has a form that isn't built yet.
     Unbuilt,
     /// A write failed; a front of the report was written.
@@ -30,23 +35,11 @@ impl Status {
             Status::Done => 0,
             Status::Usage => 2,
             Status::ReadFault => 3,
+            Status::TooLarge(_) => 4,
+            Status::Malformed(_) => 5,
             Status::WriteFault => 7,
             Status::NoMemory => 8,
             Status::Unbuilt => 9,
-        }
-    }
-
-    /// The line on standard error, with its LF; none where the run is done.
-    pub fn line(&self) -> &'static str
-        ensures { result.now ≡ line_of self.now }
-    {
-        match self {
-            Status::Done => "",
-            Status::Usage => "cssvars: bad usage\n",
-            Status::ReadFault => "cssvars: read fault\n",
-            Status::Unbuilt => "cssvars: not built\n",
-            Status::WriteFault => "cssvars: write fault\n",
-            Status::NoMemory => "cssvars: no memory\n",
         }
     }
 }

@@ -8,3 +8,7 @@ pub mod Naming
 pub mod SegmentSteps
 pub mod PiecesRead
 pub mod Ends
+pub mod GoodLists
+pub mod BlockFronts
+pub mod WhiteEnds
+pub mod NoVar

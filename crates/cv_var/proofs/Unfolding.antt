@@ -122,7 +122,7 @@ size_to-positive t rest None = omega arith
 size_to-positive t rest (Some end) = omega arith
 
 -- what comes behind a function is shorter
-length-behind : (t : Token) (rest : List Token) → length (drop (function_size (t ∷ rest)) (t ∷ rest)) ≤ length rest
+pub length-behind : (t : Token) (rest : List Token) → length (drop (function_size (t ∷ rest)) (t ∷ rest)) ≤ length rest
 length-behind t rest = let size = size_to-positive t rest (matching (t ∷ rest) 0) in let len = length-drop (function_size (t ∷ rest)) (t ∷ rest) in omega arith
 
 first_piece-same : (found : Option Reference) (t : Token) (a b : List Token → Pieces (List ℕ) Token) (rest behind : List Token) → FallbackWithin (length rest) found → length behind ≤ length rest → ((tokens : List Token) → length tokens ≤ length rest → a tokens ≡ b tokens) → first_piece found t a rest behind ≡ first_piece found t b rest behind

@@ -88,6 +88,13 @@ pieces_within (suc most) (t ∷ rest) =
 unfoldable pub pieces_of : List Token → Pieces (List ℕ) Token
 pieces_of tokens = pieces_within (length tokens) tokens
 
+-- no token of the pieces is a `var(`: each of these is a reference
+abbrev pub HoldNoVar : Pieces (List ℕ) Token → Type 0
+HoldNoVar finish = Unit {0}
+HoldNoVar (token t rest) = (is_var t ≡ false) × HoldNoVar rest
+HoldNoVar (reference n rest) = HoldNoVar rest
+HoldNoVar (reference_or n fallback rest) = HoldNoVar fallback × HoldNoVar rest
+
 -- what the pieces of a list are, with no bound on its length; a list without `var()` is what substitution makes of it
 pub record PiecesAreRead : Type 0 where
   pub none : pieces_of [] ≡ finish

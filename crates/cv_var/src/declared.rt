@@ -7,11 +7,12 @@ ghost use Rattle.cv_var.specs.Checked.{IsChecked, IsCause};
 ghost use Rattle.cv_var.specs.Flat.{flat, flattened, EndsWithin, IsSpeltPiece};
 ghost use Rattle.cv_spec_element.specs.Pieces.{RefersTo};
 ghost use Rattle.cv_var.specs.Names.{names_of, firsts};
-ghost use Rattle.cv_var.specs.References.{pieces_of, has_var};
+ghost use Rattle.cv_var.specs.References.{HoldNoVar, pieces_of, has_var};
 ghost use Rattle.cv_var.specs.Segments.{segments_of};
 ghost use Rattle.cv_var.specs.declared.refusal.VarErr.{VarErr};
 
 use crate::flat::{Part, lent};
+use crate::laws::checked_lists_hold_no_var;
 use crate::names::references;
 use crate::parts::parts_of;
 use crate::place::Place;
@@ -79,12 +80,14 @@ pub fn check(alloc: Global, tokens: &[Token]) -> Result<Declared, VarErr>
 }
 
 impl Declared {
-    /// The list that was checked.
+    /// The list that was checked. No token of its pieces is a `var(`: each of these is a reference.
     pub fn tokens(&self) -> &[Token]
         ensures tokens { result.now ≡ self.now }
         ensures checked { IsChecked self.now }
         ensures spelt { All IsSpelt self.now }
+        ensures plain { HoldNoVar (pieces_of self.now) }
     {
+        checked_lists_hold_no_var();
         self.list.tokens()
     }
 

@@ -14,7 +14,7 @@ mod value;
 
 pub use declared::{Declared, check};
 pub use flat::Part;
-pub use laws::pieces_are_read;
+pub use laws::{checked_lists_hold_no_var, pieces_are_read};
 pub use refusal::VarErr;
 pub use segment::Segment;
 

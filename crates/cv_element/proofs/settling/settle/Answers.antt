@@ -12,7 +12,7 @@ use Rattle.cv_element.proofs.settling.settle.Goals as goal
 pub keep-requires-clause-plain : goal.keep-requires-clause-plain
 keep-requires-clause-plain c =
     let is_answer = subst (λ a. IsAnswer c.args.is_cyclic (sub (values_of c.args.settling.now.values) (pieces_of c.args.declared.now)) c.args.limit a) c.in-Ok.is c.in_ok-answer.ensures.answer in
-    answer_plain c.args.settling.now.values c.requires.kept (pieces_of c.args.declared.now) c.requires.plain c.in-Ok.list is_answer.1
+    answer_plain c.args.settling.now.values c.requires.kept (pieces_of c.args.declared.now) c.tokens.ensures.plain c.in-Ok.list is_answer.1
 
 pub returns-in_ok-keep-in-Ok-clause-settles : goal.returns-in_ok-keep-in-Ok-clause-settles
 returns-in_ok-keep-in-Ok-clause-settles c = record {

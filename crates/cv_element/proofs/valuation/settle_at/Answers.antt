@@ -7,9 +7,6 @@ use Rattle.cv_element.specs.Names.{name_at}
 use Rattle.cv_element.specs.Settling.{Settles}
 use Rattle.cv_element.proofs.valuation.settle_at.Goals as goal
 
-pub settle-requires-clause-plain : goal.settle-requires-clause-plain
-settle-requires-clause-plain c = c.requires.plain _ _ (sym c.get.ensures ∙ ap option_copied c.unwrap-declaration.ensures)
-
 pub returns-clause-settles : goal.returns-clause-settles
 returns-clause-settles c =
     let named = get_or_from_slice_get c.args.names.now.keys c.args.number _ [] (sym c.get_index.ensures.key ∙ ap option_copied c.unwrap-name.ensures) in

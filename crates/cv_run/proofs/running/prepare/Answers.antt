@@ -1,8 +1,23 @@
--- What a source gave, and that it was read to its end.
-use Rattle.std.proofs.Common.{ap, Err}
-use Rattle.cv_run.proofs.Reading.{report_of_too_long}
+use Rattle.std.proofs.Common.{ap, Err, subst, sym, length, ◌≤◌}
+use Rattle.cv_doc.specs.Reading.{document_of}
+use Rattle.cv_run.specs.Fates.{fate_of_reading}
+use Rattle.cv_run.proofs.Given.{ends_early, gave, stopped_given, tells_given, too_long}
 use Rattle.cv_run.proofs.running.prepare.Goals as goal
 
-pub returns-in-Err-TooLong-clause-unbuilt : goal.returns-in-Err-TooLong-clause-unbuilt
-returns-in-Err-TooLong-clause-unbuilt g c =
-    λ _. report_of_too_long _ _ (c.in-Err-TooLong.ensures.too_long (ap Err c.in-Err-TooLong.field-0-is))
+pub returns-in-Err-TooLong-clause-refused : goal.returns-in-Err-TooLong-clause-refused
+returns-in-Err-TooLong-clause-refused g c = too_long (g.S.Source.left c.args.src.now) (c.in-Err-TooLong.ensures.held (ap Err c.in-Err-TooLong.field-0-is))
+
+pub returns-clause-tells : goal.returns-clause-tells
+returns-clause-tells g c =
+    tells_given (g.S.Source.left c.args.src.now) (fate_of_reading (document_of c.deref.result.now)) c.args.limit c.report_of.result
+    (rw c.deref.ensures.value (gave (g.S.Source.left c.args.src.now) (g.S.Source.left c.read_all.new.src) c.in-Ok.bytes.items c.in-Ok.ensures.all c.in-Ok.ensures.most))
+    c.report_of.ensures.tells
+
+pub returns-clause-refused : goal.returns-clause-refused
+returns-clause-refused g c =
+    stopped_given (g.S.Source.left c.args.src.now) (fate_of_reading (document_of c.deref.result.now)) _ c.report_of.result
+    (rw c.deref.ensures.value (gave (g.S.Source.left c.args.src.now) (g.S.Source.left c.read_all.new.src) c.in-Ok.bytes.items c.in-Ok.ensures.all c.in-Ok.ensures.most))
+    c.report_of.ensures.refused
+
+pub returns-clause-early : goal.returns-clause-early
+returns-clause-early g c = ends_early (fate_of_reading (document_of c.deref.result.now)) c.report_of.result c.report_of.ensures.refused

@@ -1,5 +1,6 @@
+use Rattle.cv_run.specs.StatusLines.{line_of}
 use Rattle.cv_run.proofs.Taken.{took_prefix}
 use Rattle.cv_run.proofs.running.run.Goals as goal
 
 pub returns-clause-line : goal.returns-clause-line
-returns-clause-line g c = rw (← c.line.ensures) (took_prefix _ _ _ c.put.result (rw (← c.as_bytes.ensures.value) c.put.ensures.whole) (rw (← c.as_bytes.ensures.value) c.put.ensures.part))
+returns-clause-line g c = took_prefix (g.E.Sink.taken c.args.err.now) (g.E.Sink.taken c.put_line.new.err) (line_of c.answer-status.result) c.put_line.result c.put_line.ensures.taken

@@ -1,0 +1,71 @@
+// What a document says of its elements.
+ghost use Rattle.std.specs.Prelude.{◌≡◌, ◌≤◌, IfOk, IfSome, length, option_map};
+ghost use Rattle.cv_doc.specs.Reading.{shape_of};
+ghost use Rattle.cv_run.specs.Names.{keys_in, keys_shown, named_keys, show_ordinary};
+ghost use Rattle.cv_run.specs.Telling.{MayHaveContents};
+
+use crate::names::{are_ordinary, count_names, first_seen, named_keys};
+use crate::styles::{declarations_of, tokens_in};
+use cv_doc::Document;
+use cv_props::{Decls, Key, Note, Registry, registers};
+use cv_spec_text::Name;
+use std::alloc::{AllocError, Global};
+
+/// What a document says of its elements.
+#[derive(Drop)]
+pub struct Contents {
+    pub registry: Registry,
+    pub notes: Vec<Note>,
+    pub declarations: Vec<Decls>,
+    pub shown: Vec<Key>,
+}
+
+/// What a document says, or `None` where it has a form that isn't built yet.
+pub fn contents_of(alloc: Global, document: &Document) -> Result<Option<Contents>, AllocError>
+    requires { length document.now.elements.items ≤ 16384 }
+    ensures { IfOk result (λ contents. MayHaveContents (shape_of document.now) contents) }
+{
+    let sheet = tokens_in(alloc, &document.sheet)?;
+    if registers(alloc, &sheet)? {
+        return Ok(None);
+    }
+    let (registry, mut notes) = Registry::of_sheet(alloc, &sheet, document.width, document.height)?;
+    let Some(declarations) = declarations_of(alloc, &document.elements, &mut notes)? else {
+        return Ok(None);
+    };
+    let shown = shown_keys(alloc, &document.show, &declarations)?;
+    if shows_ordinary(&document.show, &shown) {
+        return Ok(None);
+    }
+    Ok(Some(Contents {
+        registry,
+        notes,
+        declarations,
+        shown,
+    }))
+}
+
+// The properties to show, where these are the declarations.
+fn shown_keys(
+    alloc: Global,
+    show: &Option<Vec<Name>>,
+    declarations: &[Decls],
+) -> Result<Vec<Key>, AllocError>
+    ensures { IfOk result (λ keys. keys.items ≡ keys_shown (option_map (λ names. names.items) show.now) (keys_in declarations.now)) }
+{
+    match show {
+        Some(names) => named_keys(alloc, names),
+        None => first_seen(alloc, declarations),
+    }
+}
+
+// Whether an entry of `show` names an ordinary property, where these are the properties to show.
+fn shows_ordinary(show: &Option<Vec<Name>>, shown: &[Key]) -> bool
+    requires { IfSome show.now (λ names. shown.now ≡ named_keys names.items) }
+    ensures { result ≡ show_ordinary (option_map (λ names. names.items) show.now) }
+{
+    match show {
+        Some(_) => are_ordinary(shown),
+        None => false,
+    }
+}

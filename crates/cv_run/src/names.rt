@@ -1,0 +1,205 @@
+// The properties that a document shows, and the names that it counts.
+ghost use Rattle.std.specs.Prelude.{◌≡◌, ◌++◌, ◌∷◌, [], IfOk, OnOk, bytes_eq, filter, length, option_map};
+ghost use Rattle.std.specs.List.{filter_map, list_any};
+ghost use Rattle.std.specs.Map.{keys_of};
+ghost use Rattle.std.specs.Option.{option_copied};
+ghost use Rattle.indexmap.specs.IndexSet.{insert_all, insert_key};
+ghost use Rattle.cv_spec_text.specs.Keywords.{is_custom};
+ghost use Rattle.cv_props.specs.Keys.{same_key};
+ghost use Rattle.cv_run.specs.Names.{first_seen, is_ordinary, keys_in, name_of_command, name_of_key, named_keys, names_counted, names_in, names_shown, with_names};
+
+use cv_doc::Command;
+use cv_props::{Decls, Key};
+use cv_spec_text::Name;
+use indexmap::IndexSet;
+use std::alloc::{AllocError, Global};
+
+/// The properties of these names.
+#[tactic(auto, using(crate::proofs::Naming::named_next))]
+pub fn named_keys(alloc: Global, names: &[Name]) -> Result<Vec<Key>, AllocError>
+    ensures { IfOk result (λ keys. keys.items ≡ named_keys names.now) }
+{
+    let mut keys = Vec::new(alloc);
+    let mut rest = names;
+    while let Some((name, after)) = rest.split_first() {
+        add_named(alloc, &mut keys, name)?;
+        rest = after;
+    }
+    Ok(keys)
+}
+
+fn add_named(alloc: Global, keys: &mut Vec<Key>, name: &Name) -> Result<(), AllocError>
+    ensures { OnOk result (keys.new.items ≡ keys.old.items ++ named_keys (name.now ∷ [])) }
+{
+    if let Some(key) = Key::named(alloc, name.text())? {
+        keys.push(key)?;
+    }
+    Ok(())
+}
+
+/// Whether one of the keys is an ordinary property.
+pub fn are_ordinary(keys: &[Key]) -> bool
+    ensures { result ≡ list_any is_ordinary keys.now }
+{
+    keys.iter().any(is_ordinary)
+}
+
+fn is_ordinary(key: &Key) -> bool
+    ensures { result ≡ is_ordinary key.now }
+{
+    match key {
+        Key::Table(_) => true,
+        Key::Custom(_) => false,
+    }
+}
+
+/// The keys of the declarations, each once, in the order in which they are first seen.
+#[tactic(auto, using(crate::proofs::Naming::seen_next))]
+pub fn first_seen(alloc: Global, all: &[Decls]) -> Result<Vec<Key>, AllocError>
+    ensures { IfOk result (λ keys. keys.items ≡ first_seen (keys_in all.now)) }
+{
+    let mut seen = IndexSet::new(alloc);
+    let mut rest = all;
+    while let Some((declarations, after)) = rest.split_first() {
+        add_keys(&mut seen, declarations)?;
+        rest = after;
+    }
+    copies(alloc, seen.as_slice())
+}
+
+#[tactic(auto, using(crate::proofs::Naming::seen_key))]
+fn add_keys(seen: &mut IndexSet<Key>, declarations: &Decls) -> Result<(), AllocError>
+    ensures { OnOk result (seen.new.keys ≡ insert_all same_key seen.old.keys (keys_of declarations.now)) }
+{
+    for place in 0..declarations.len() {
+        let (key, _) = declarations.at(place);
+        seen.insert(key.copy()?)?;
+    }
+    Ok(())
+}
+
+fn copies(alloc: Global, keys: &[Key]) -> Result<Vec<Key>, AllocError>
+    ensures { IfOk result (λ all. all.items ≡ keys.now) }
+{
+    let mut all = Vec::new(alloc);
+    for key in keys {
+        all.push(key.copy()?)?;
+    }
+    Ok(all)
+}
+
+/// How many different custom names the declarations, the names to show and the commands have.
+pub fn count_names(
+    alloc: Global,
+    all: &[Decls],
+    shown: &Option<Vec<Name>>,
+    commands: &[Command],
+) -> Result<usize, AllocError>
+    ensures { IfOk result (λ count. count ≡ names_counted (names_in all.now (option_map (λ names. names.items) shown.now) commands.now)) }
+{
+    let mut names = IndexSet::new(alloc);
+    add_all_declared(&mut names, all)?;
+    add_show(&mut names, shown)?;
+    add_asked(&mut names, commands)?;
+    Ok(names.len())
+}
+
+#[tactic(auto, using(crate::proofs::Naming::with_keys_next))]
+fn add_all_declared(names: &mut IndexSet<Name>, all: &[Decls]) -> Result<(), AllocError>
+    ensures { OnOk result (names.new.keys ≡ with_names names.old.keys (filter_map name_of_key (keys_in all.now))) }
+{
+    let mut rest = all;
+    while let Some((declarations, after)) = rest.split_first() {
+        add_declared(names, declarations)?;
+        rest = after;
+    }
+    Ok(())
+}
+
+#[tactic(auto, using(crate::proofs::Naming::with_key_next))]
+fn add_declared(names: &mut IndexSet<Name>, declarations: &Decls) -> Result<(), AllocError>
+    ensures { OnOk result (names.new.keys ≡ with_names names.old.keys (filter_map name_of_key (keys_of declarations.now))) }
+{
+    for place in 0..declarations.len() {
+        let (key, _) = declarations.at(place);
+        add_key(names, key)?;
+    }
+    Ok(())
+}
+
+fn add_key(names: &mut IndexSet<Name>, key: &Key) -> Result<(), AllocError>
+    ensures { OnOk result (names.new.keys ≡ with_names names.old.keys (filter_map name_of_key (key.now ∷ []))) }
+{
+    match key {
+        Key::Custom(name) => add_custom(names, name),
+        Key::Table(_) => Ok(()),
+    }
+}
+
+fn add_show(names: &mut IndexSet<Name>, show: &Option<Vec<Name>>) -> Result<(), AllocError>
+    ensures { OnOk result (names.new.keys ≡ with_names names.old.keys (names_shown (option_map (λ shown. shown.items) show.now))) }
+{
+    match show {
+        Some(shown) => add_shown(names, shown),
+        None => Ok(()),
+    }
+}
+
+#[tactic(auto, using(crate::proofs::Naming::with_names_next))]
+fn add_shown(names: &mut IndexSet<Name>, shown: &[Name]) -> Result<(), AllocError>
+    ensures { OnOk result (names.new.keys ≡ with_names names.old.keys shown.now) }
+{
+    let mut rest = shown;
+    while let Some((name, after)) = rest.split_first() {
+        add_custom(names, name)?;
+        rest = after;
+    }
+    Ok(())
+}
+
+#[tactic(auto, using(crate::proofs::Naming::with_asked_next))]
+fn add_asked(names: &mut IndexSet<Name>, commands: &[Command]) -> Result<(), AllocError>
+    ensures { OnOk result (names.new.keys ≡ with_names names.old.keys (filter_map name_of_command commands.now)) }
+{
+    let mut rest = commands;
+    while let Some((command, after)) = rest.split_first() {
+        add_command(names, command)?;
+        rest = after;
+    }
+    Ok(())
+}
+
+fn add_command(names: &mut IndexSet<Name>, command: &Command) -> Result<(), AllocError>
+    ensures { OnOk result (names.new.keys ≡ with_names names.old.keys (filter_map name_of_command (command.now ∷ []))) }
+{
+    match name_of_command(command) {
+        Some(name) => add_custom(names, name),
+        None => Ok(()),
+    }
+}
+
+fn add_custom(names: &mut IndexSet<Name>, name: &Name) -> Result<(), AllocError>
+    ensures { OnOk result (names.new.keys ≡ with_names names.old.keys (name.now ∷ [])) }
+{
+    if name.is_custom() {
+        names.insert(name.copy()?)?;
+    }
+    Ok(())
+}
+
+// The name that a command speaks of.
+fn name_of_command(command: &Command) -> Option<&Name>
+    ensures { option_map (λ name. name.now) result ≡ name_of_command command.now }
+{
+    match command {
+        Command::Get { name, .. } => Some(name),
+        Command::GetAll { name, .. } => Some(name),
+        Command::Has { name, .. } => Some(name),
+        Command::Set { name, .. } => Some(name),
+        Command::Append { name, .. } => Some(name),
+        Command::Delete { name, .. } => Some(name),
+        Command::Computed { name, .. } => Some(name),
+        Command::Reify { name, .. } => Some(name),
+        _ => None,
+    }
+}

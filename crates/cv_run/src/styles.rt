@@ -1,0 +1,74 @@
+// The styles of a document's elements: their declarations, and what is ignored in them.
+ghost use Rattle.std.specs.Prelude.{◌≡◌, ◌<◌, ◌≤◌, ◌++◌, All, IfOk, IfSome, IsSome, length, map, option_map};
+ghost use Rattle.cv_spec_text.specs.Splits.{IsSpelt};
+ghost use Rattle.cv_run.specs.Building.{all_built, built_style};
+ghost use Rattle.cv_run.specs.Styles.{elements_notes, items_in, tokens_in};
+ghost use Rattle.cv_props.specs.Kept.{notes_on};
+
+use cv_doc::Elem;
+use cv_props::{Decls, Note, declares_ordinary};
+use cv_spec_text::{Name, Token};
+use cv_token::tokenise;
+use std::alloc::{AllocError, Global};
+
+// The most tokens of a list, and one more. So many tokens of 40 bytes are more than there is memory for.
+const MOST_TOKENS: usize = 4294967288;
+
+/// The tokens of a text.
+pub fn tokens_in(alloc: Global, text: &Name) -> Result<Vec<Token>, AllocError>
+    ensures tokens { IfOk result (λ all. all.items ≡ tokens_in text.now) }
+    ensures spelt { IfOk result (λ all. All IsSpelt all.items) }
+    ensures few { IfOk result (λ all. length all.items < 4294967288) }
+{
+    let tokens = tokenise(alloc, text.text())?;
+    if tokens.len() < MOST_TOKENS {
+        Ok(tokens)
+    } else {
+        Err(AllocError)
+    }
+}
+
+/// The declarations of each element, and the notes on what is ignored behind those that are there. `None` where a style declares
+/// an ordinary property, which isn't built yet.
+#[tactic(auto, using(crate::proofs::Stepping::all_built_next, crate::proofs::Stepping::all_built_none, crate::proofs::Stepping::all_built_nothing))]
+pub fn declarations_of(
+    alloc: Global,
+    elements: &[Elem],
+    notes: &mut Vec<Note>,
+) -> Result<Option<Vec<Decls>>, AllocError>
+    requires { length elements.now ≤ 16384 }
+    ensures declarations { IfOk result (λ all. option_map (λ declarations. declarations.items) all ≡ all_built elements.now) }
+    ensures notes { IfOk result (λ all. IsSome all → notes.new.items ≡ notes.old.items ++ elements_notes 0 elements.now) }
+{
+    let mut all = Vec::new(alloc);
+    let mut rest = elements;
+    let mut number = 0u32;
+    while let Some((element, after)) = rest.split_first() {
+        match declarations_in(alloc, number, &element.style, notes)? {
+            Some(declarations) => all.push(declarations)?,
+            None => return Ok(None),
+        }
+        number += 1;
+        rest = after;
+    }
+    Ok(Some(all))
+}
+
+// The declarations of the element with this number.
+fn declarations_in(
+    alloc: Global,
+    number: u32,
+    style: &Name,
+    notes: &mut Vec<Note>,
+) -> Result<Option<Decls>, AllocError>
+    ensures declarations { IfOk result (λ declarations. declarations ≡ built_style style.now) }
+    ensures notes { IfOk result (λ declarations. IsSome declarations → notes.new.items ≡ notes.old.items ++ notes_on number (items_in style.now)) }
+{
+    let tokens = tokens_in(alloc, style)?;
+    if declares_ordinary(alloc, &tokens)? {
+        return Ok(None);
+    }
+    let (declarations, mut more) = Decls::of_style(alloc, number, &tokens)?;
+    notes.append(&mut more)?;
+    Ok(Some(declarations))
+}
