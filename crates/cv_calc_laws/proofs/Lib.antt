@@ -1,0 +1,11 @@
+pub mod Lists
+pub mod Named
+pub mod UnitTypes
+pub mod Factors
+pub mod Rows
+pub mod ProductRows
+pub mod Defined
+pub mod Single
+pub mod Folding
+pub mod Contexts
+pub mod ReadUnits

@@ -1,0 +1,33 @@
+-- Calculations that simplify to one number: those that are linear and have the type of a unit, as far as they have a value (CSS Values
+-- and Units 4, "Simplification"; which calculations are linear is this project's own).
+use Rattle.std.specs.Prelude.{◌≡◌, true, List, Some, Ok}
+use Rattle.cv_ratio.specs.Ratio.{Ratio}
+use Rattle.cv_spec_text.specs.declared.token.Token.{Token}
+use Rattle.cv_calc.specs.declared.unit.NumType.{NumType}
+use Rattle.cv_calc.specs.declared.unit.Unit as units
+use Rattle.cv_calc.specs.declared.unit.Unit.TheVariants.{Percent}
+use Rattle.cv_calc.specs.declared.context.Basis.TheVariants.{Plain}
+use Rattle.cv_calc.specs.declared.context.Context.{Context}
+use Rattle.cv_calc.specs.declared.calc.Calc.{Calc}
+use Rattle.cv_calc.specs.declared.calc.Calc.TheVariants.{Num}
+use Rattle.cv_calc.specs.Factor.{canonical}
+use Rattle.cv_calc.specs.Linear.{is_linear, no_hint}
+use Rattle.cv_calc.specs.Types.{type_of, unit_type, same_powers}
+use Rattle.cv_calc.specs.Value.{Meaning, value}
+use Rattle.cv_simplify.specs.Agrees.{Agrees}
+use Rattle.cv_simplify.specs.Simplified.{simp}
+
+-- it is linear and has the type of the unit, and where that is a percentage, percentages stand for themselves
+pub record IsOfUnit (x : Context) (u : units.Unit) (c : Calc) : Type 0 where
+  pub linear : is_linear c ≡ true
+  pub kind : type_of c ≡ Some (unit_type u)
+  pub plain : u ≡ Percent → x.basis ≡ Plain
+
+-- it simplifies to its value in the canonical unit
+abbrev pub SimplifiesToValue : Type 0
+SimplifiesToValue =
+    (x : Context) (u : units.Unit) (c : Calc) → IsOfUnit x u c → (m : Meaning) → Agrees m x → (r : Ratio) → value m c ≡ Some r → simp x c ≡ Num r (canonical u)
+
+-- a type with the powers of a unit and without a hint is the unit's
+abbrev pub TypesAreTold : Type 0
+TypesAreTold = (t : NumType) (u : units.Unit) → same_powers t (unit_type u) ≡ true → no_hint t.hint ≡ true → t ≡ unit_type u
