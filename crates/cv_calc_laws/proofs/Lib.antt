@@ -5,7 +5,12 @@ pub mod Factors
 pub mod Rows
 pub mod ProductRows
 pub mod Defined
-pub mod Single
+pub mod OneNumber
 pub mod Folding
 pub mod Contexts
 pub mod ReadUnits
+pub mod Counts
+pub mod Measured
+pub mod Valued
+pub mod Answered
+pub mod AnsweredNumbers

@@ -25,6 +25,7 @@ use Rattle.cv_calcread.specs.declared.level.Opened.TheVariants as opening
 use Rattle.cv_calcread.proofs.Whole.{grammar_is_read}
 use Rattle.cv_calc_laws.specs.Fonts.{is_other_unit, UnitsAreRead}
 use Rattle.cv_calc_laws.specs.Units.{all_units, passes_if, token_passes}
+use Rattle.cv_calc_laws.proofs.Answered.{answered}
 use Rattle.cv_calc_laws.proofs.Folding.{all-Num, all-Sum, all-Product, all-Negate, all-Invert, all-Min, all-Max, all-Clamp}
 use Rattle.cv_calc_laws.proofs.Lists.{none_some, some_same, and_both, both_are}
 
@@ -134,50 +135,7 @@ module _ (test : units.Unit → Bool) (number_ok : test unit.Number ≡ true) (p
         let r : ReadsAs number tokens c = grammar_is_read.only number tokens c e in
         (value_passes r.1.1 (closed_pass tokens r.1.0 h)).0
 
--- ---- what is answered is what is read
-
-ok_same : (c d : Calc) → ◌≡◌ {A = Result Calc CalcErr} (Ok c) (Ok d) → c ≡ d
-ok_same c d e = cc
-
-err_ok : (e : CalcErr) (d : Calc) → ◌≡◌ {A = Result Calc CalcErr} (Err e) (Ok d) → ⊥
-err_ok e d h = cc
-
--- the calculation that is answered, and that no divisor of it is refused
-pub record Answered (ts : List Token) (c : Calc) : Type 0 where
-  pub tree : read exact_number ts ≡ Some c
-  pub not_null : divisor_place (is_marked Null) (evaluated c).marks (divisor_places 0 ts) ≡ None
-  pub not_far : divisor_place (is_marked Far) (evaluated c).marks (divisor_places 0 ts) ≡ None
-
-module _ (ts : List Token) (c d : Calc) (is : read exact_number ts ≡ Some d) where
-  by_null : (o : Option ℕ) → divisor_place (is_marked Null) (evaluated d).marks (divisor_places 0 ts) ≡ o → divisor_place (is_marked Far) (evaluated d).marks (divisor_places 0 ts) ≡ None → after_range d o ≡ Ok c → Answered ts c
-  by_null (Some n) null far e = absurd (err_ok _ c e)
-  by_null None null far e =
-      let same : d ≡ c = ok_same d c e in
-      record {
-        tree = is ∙ ap Some same;
-        not_null = ap (λ b. divisor_place (is_marked Null) (evaluated b).marks (divisor_places 0 ts)) (sym same) ∙ null;
-        not_far = ap (λ b. divisor_place (is_marked Far) (evaluated b).marks (divisor_places 0 ts)) (sym same) ∙ far;
-      }
-
-  by_far : (t : NumType) (o : Option ℕ) → divisor_place (is_marked Far) (evaluated d).marks (divisor_places 0 ts) ≡ o → after_literals (divisor_places 0 ts) (evaluated d).marks d t o ≡ Ok c → Answered ts c
-  by_far t (Some n) far e = absurd (err_ok _ c e)
-  by_far t None far e = by_null (divisor_place (is_marked Null) (evaluated d).marks (divisor_places 0 ts)) refl far e
-
-  by_literal : (t : NumType) (o : Option ℕ) → after_type ts d t o ≡ Ok c → Answered ts c
-  by_literal t (Some n) e = absurd (err_ok _ c e)
-  by_literal t None e = by_far t (divisor_place (is_marked Far) (evaluated d).marks (divisor_places 0 ts)) refl e
-
-  by_type : (o : Option NumType) → typed ts d o ≡ Ok c → Answered ts c
-  by_type None e = absurd (err_ok _ c e)
-  by_type (Some t) e = by_literal t (wide_place 0 ts) e
-
-pub answered : (ts : List Token) (c : Calc) → answer ts ≡ Ok c → Answered ts c
-unfolding answer
-answered ts c e = go (read exact_number ts) refl e
-  where
-    go : (o : Option Calc) → read exact_number ts ≡ o → after_tree ts o ≡ Ok c → Answered ts c
-    go None is e = absurd (err_ok _ c e)
-    go (Some d) is e = by_type ts c d is (type_of d) e
+-- ---- the law
 
 pub units_are_read : UnitsAreRead
 units_are_read = record {

@@ -14,6 +14,7 @@ use Rattle.cv_calc.specs.Factor.{canonical}
 use Rattle.cv_calc.specs.Linear.{is_linear, no_hint}
 use Rattle.cv_calc.specs.Types.{type_of, unit_type, same_powers}
 use Rattle.cv_calc.specs.Value.{Meaning, value}
+use Rattle.cv_calcread.specs.Answer.{answer}
 use Rattle.cv_simplify.specs.Agrees.{Agrees}
 use Rattle.cv_simplify.specs.Simplified.{simp}
 
@@ -31,3 +32,11 @@ SimplifiesToValue =
 -- a type with the powers of a unit and without a hint is the unit's
 abbrev pub TypesAreTold : Type 0
 TypesAreTold = (t : NumType) (u : units.Unit) → same_powers t (unit_type u) ≡ true → no_hint t.hint ≡ true → t ≡ unit_type u
+
+-- a linear calculation that the reader answers has a value in each meaning
+abbrev pub AnswersHaveValues : Type 0
+AnswersHaveValues = (tokens : List Token) (c : Calc) → answer tokens ≡ Ok c → is_linear c ≡ true → (m : Meaning) → (r : Ratio) × (value m c ≡ Some r)
+
+-- so it simplifies to one number in the canonical unit
+abbrev pub AnswersAreNumbers : Type 0
+AnswersAreNumbers = (x : Context) (u : units.Unit) (tokens : List Token) (c : Calc) → answer tokens ≡ Ok c → IsOfUnit x u c → (r : Ratio) × (simp x c ≡ Num r (canonical u))

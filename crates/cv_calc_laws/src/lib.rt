@@ -1,6 +1,8 @@
 //! Laws of calculations by the kind of their type and by context.
 #![tactic(auto)]
 
-mod laws;
+mod fonts;
+mod single;
 
-pub use laws::single_numbers;
+pub use fonts::{contexts_differ_in_fonts, units_are_read};
+pub use single::{answers_are_numbers, calculations_are_numbers};

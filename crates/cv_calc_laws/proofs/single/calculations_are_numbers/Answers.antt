@@ -1,6 +1,6 @@
+use Rattle.cv_calc_laws.proofs.OneNumber.{simplifies_to_value}
 use Rattle.cv_calc_laws.proofs.UnitTypes.{types_are_told}
-use Rattle.cv_calc_laws.proofs.Single.{simplifies_to_value}
-use Rattle.cv_calc_laws.proofs.laws.single_numbers.Goals as goal
+use Rattle.cv_calc_laws.proofs.single.calculations_are_numbers.Goals as goal
 
 pub returns-clause-value : goal.returns-clause-value
 returns-clause-value c = simplifies_to_value
