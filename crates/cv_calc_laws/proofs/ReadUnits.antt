@@ -1,5 +1,5 @@
 -- What is read of a list has no other units than the list.
-use Rattle.std.specs.Prelude.{Bool, true, false, ◌&&◌, List, [], ◌∷◌, ◌++◌, map, replicate, zero, suc, Result, Ok, Err, Option, Some, None}
+use Rattle.std.specs.Prelude.{Bool, true, false, not, ◌&&◌, List, [], ◌∷◌, ◌++◌, map, replicate, zero, suc, Result, Ok, Err, Option, Some, None}
 use Rattle.std.specs.List.{list_all}
 use Rattle.std.proofs.Common.{◌≡◌, refl, sym, ◌∙◌, ap, ap₂, ℕ}
 use Rattle.cv_ratio.specs.Ratio.{Ratio}
@@ -139,6 +139,7 @@ module _ (test : units.Unit → Bool) (number_ok : test unit.Number ≡ true) (p
 
 pub units_are_read : UnitsAreRead
 units_are_read = record {
+  of_number = λ root v u h. all-Num (is_other_unit root) v u ∙ ap not h;
   of_tree = λ root number tokens c h e. read_passes (is_other_unit root) refl refl number tokens c h e;
   of_answer = λ root tokens c h e. read_passes (is_other_unit root) refl refl exact_number tokens c h (answered tokens c e).tree;
 }

@@ -9,6 +9,7 @@ use Rattle.cv_calc.specs.declared.unit.Unit as units
 use Rattle.cv_calc.specs.declared.unit.Unit.TheVariants.{Em, Rem, Ex, Ch, Ic}
 use Rattle.cv_calc.specs.declared.context.Context.{Context}
 use Rattle.cv_calc.specs.declared.calc.Calc.{Calc}
+use Rattle.cv_calc.specs.declared.calc.Calc.TheVariants.{Num}
 use Rattle.cv_calcread.specs.Answer.{answer}
 use Rattle.cv_calcread.specs.Reading.{read}
 use Rattle.cv_simplify.specs.Canonical.{holds_canonical}
@@ -43,8 +44,9 @@ pub record DifferInFonts (root : Bool) (x y : Context) : Type 0 where
   pub height : x.height ≡ y.height
   pub basis : x.basis ≡ y.basis
 
--- what is read of a list without font units has none
+-- a number of another unit has no font unit, and what is read of a list without them has none
 pub record UnitsAreRead : Type 0 where
+  pub of_number : (root : Bool) (v : Ratio) (u : units.Unit) → is_font_unit root u ≡ false → has_no_font_unit root (Num v u) ≡ true
   pub of_tree : (root : Bool) (number : List ℕ → Ratio) (tokens : List Token) (c : Calc) → holds_no_font_unit root tokens ≡ true → read number tokens ≡ Some c → has_no_font_unit root c ≡ true
   pub of_answer : (root : Bool) (tokens : List Token) (c : Calc) → holds_no_font_unit root tokens ≡ true → answer tokens ≡ Ok c → has_no_font_unit root c ≡ true
 

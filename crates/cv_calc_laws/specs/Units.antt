@@ -9,6 +9,11 @@ use Rattle.cv_calc.specs.declared.calc.Calc.TheOpen.{Calc-F, Num, Sum, Product, 
 use Rattle.cv_calc.specs.declared.calc.Calc.TheFolds.{fold-Calc}
 use Rattle.cv_calc.specs.Names.{unit_with_name}
 
+-- the unit of a token, where it is a dimension with the name of a unit
+abbrev pub token_unit : Token → Option units.Unit
+token_unit (Dimension n name) = unit_with_name name
+token_unit t = None
+
 module _ (test : units.Unit → Bool) where
   abbrev pub units_step : Calc-F Bool → Bool
   units_step (Num v u) = test u
@@ -28,7 +33,6 @@ module _ (test : units.Unit → Bool) where
   passes_if None = true
   passes_if (Some u) = test u
 
-  -- the unit of the token passes, where it is a dimension with a unit
+  -- the unit of the token passes, where it has one
   abbrev pub token_passes : Token → Bool
-  token_passes (Dimension n name) = passes_if (unit_with_name name)
-  token_passes t = true
+  token_passes t = passes_if (token_unit t)
