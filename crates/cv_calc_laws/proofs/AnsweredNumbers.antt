@@ -45,10 +45,10 @@ percent_agrees Plain = refl
 percent_agrees Length = tt
 percent_agrees (Of f) = refl
 
-meaning_of : Context → Meaning
+pub meaning_of : Context → Meaning
 meaning_of x = record { sizes = sizes_of x; percent = percent_of x.basis }
 
-meaning_agrees : (x : Context) → Agrees (meaning_of x) x
+pub meaning_agrees : (x : Context) → Agrees (meaning_of x) x
 unfolding meaning_of
 meaning_agrees x = record { sizes = refl; percent = percent_agrees x.basis }
 

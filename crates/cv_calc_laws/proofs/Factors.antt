@@ -52,7 +52,7 @@ no_hints o (t ∷ ts) e =
     (first, (here, rest))
 
 -- a product that comes to nothing stays so
-stays_none : (h : Option Base) (ts : List (Option NumType)) (w : NumType) → fold (multiplied_next h) None ts ≡ Some w → ⊥
+pub stays_none : (h : Option Base) (ts : List (Option NumType)) (w : NumType) → fold (multiplied_next h) None ts ≡ Some w → ⊥
 stays_none h [] w e = none_some w e
 stays_none h (t ∷ ts) w e = stays_none h ts w e
 
@@ -80,7 +80,7 @@ not_true : (b : Bool) → not b ≡ true → b ≡ false
 not_true true e = absurd (false_true e)
 not_true false e = refl
 
-plain_kind : (s : Shape) → is_measured s ≡ false → s.kind ≡ Some plain
+pub plain_kind : (s : Shape) → is_measured s ≡ false → s.kind ≡ Some plain
 plain_kind s e = plain_is s.kind (not_false (is_plain s.kind) e)
 
 -- behind a factor, plain ones leave the type
@@ -96,7 +96,7 @@ plain_factors s w (t ∷ ts) n f e = go (is_measured t) refl n (λ p m b g. plai
         let h : First s t.kind (kinds ts) w = first_of_them s t.kind (kinds ts) w e in
         let kind : t.kind ≡ Some plain = plain_kind t is in
         let same : h.kind ≡ plain = some_same h.kind plain (sym h.is ∙ kind) in
-        let here : h.product ≡ s = times_plain s h.product (ap (multiplied s) (sym same) ∙ h.gives) in
+        let here : h.product ≡ s = times_plain None s h.product (ap (multiplied s) (sym same) ∙ h.gives) in
         let (a, b) = and_both t.fits (all_fit ts) f in
         let (rest, parts) = more h.product n b h.rest in
         (rest ∙ here, ((kind, a), parts))
@@ -118,7 +118,7 @@ factors w (t ∷ ts) n f k e = go (is_measured t) refl n (λ m b g. factors w ts
         (one_measured ts ≡ true → all_fit ts ≡ true → fold (multiplied_next None) (Some plain) (kinds ts) ≡ Some w → FactorsAre w ts) → FactorsAre w (t ∷ ts)
     go true is n more =
         let h : First plain t.kind (kinds ts) w = first_of_them plain t.kind (kinds ts) w e in
-        let here : h.product ≡ h.kind = plain_times h.kind h.product (k.0 h.kind h.is) h.gives in
+        let here : h.product ≡ h.kind = plain_times None h.kind h.product (k.0 h.kind h.is) h.gives in
         let (a, b) = and_both t.fits (all_fit ts) f in
         let (rest, parts) = plain_factors h.product w ts n b h.rest in
         let kind : t.kind ≡ Some w = h.is ∙ ap Some (sym (rest ∙ here)) in
@@ -127,7 +127,7 @@ factors w (t ∷ ts) n f k e = go (is_measured t) refl n (λ m b g. factors w ts
         let h : First plain t.kind (kinds ts) w = first_of_them plain t.kind (kinds ts) w e in
         let kind : t.kind ≡ Some plain = plain_kind t is in
         let same : h.kind ≡ plain = some_same h.kind plain (sym h.is ∙ kind) in
-        let here : h.product ≡ plain = times_plain plain h.product (ap (multiplied plain) (sym same) ∙ h.gives) in
+        let here : h.product ≡ plain = times_plain None plain h.product (ap (multiplied plain) (sym same) ∙ h.gives) in
         let (a, b) = and_both t.fits (all_fit ts) f in
         one_more w t ts (kind, a) (more n b (ap (λ s. fold (multiplied_next None) (Some s) (kinds ts)) (sym here) ∙ h.rest))
 

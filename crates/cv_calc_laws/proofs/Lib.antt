@@ -14,3 +14,9 @@ pub mod Measured
 pub mod Valued
 pub mod Answered
 pub mod AnsweredNumbers
+pub mod LinearTypes
+pub mod MixedFactors
+pub mod TypedTrees
+pub mod LengthNumber
+pub mod Written
+pub mod Free

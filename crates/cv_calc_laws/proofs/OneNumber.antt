@@ -42,7 +42,7 @@ number_single : (x : Context) (v : Ratio) (u k : units.Unit) → may_compare (co
 number_single x v Percent k ok e = percent_single v x.basis k ok e
 number_single x v u k ok e = (mul v (factor (sizes_of x) u), ap (Num (mul v (factor (sizes_of x) u))) e)
 
-may_number : (b : Bool) → may_compare b (canonical Number) ≡ true
+pub may_number : (b : Bool) → may_compare b (canonical Number) ≡ true
 may_number true = refl
 may_number false = refl
 
@@ -147,7 +147,7 @@ module _ (m : Meaning) (x : Context) (ag : Agrees m x) where
       subst (IsNum (canonical u)) (sym (fold-Clamp (simp_step x) a b c))
       (clamped_one (canonical u) (compares_percent x.basis) ok (simp x a) (simp x b) (simp x c) (h u ok start first) (k u ok rest.0 second) (l u ok rest.1.0 third))
 
-  every_calc : (c : Calc) → IsSingle c
+  pub every_calc : (c : Calc) → IsSingle c
   every_calc = by_cases IsSingle record {
     num = num_single;
     sum = sum_single;
@@ -161,7 +161,7 @@ module _ (m : Meaning) (x : Context) (ag : Agrees m x) where
 
 -- ---- the law
 
-stands : (b : Bool) → (if b then true else true) ≡ true
+pub stands : (b : Bool) → (if b then true else true) ≡ true
 stands true = refl
 stands false = refl
 

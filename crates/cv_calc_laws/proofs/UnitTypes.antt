@@ -284,16 +284,16 @@ product_has s t w e =
     ap (λ (u : NumType). u.hint) (sym (within_is whole w e))
 
 -- a plain factor leaves the type
-pub times_plain : (s w : NumType) → multiplied s (no_powers None) ≡ Some w → w ≡ s
+pub times_plain : (h : Option Base) (s w : NumType) → multiplied s (no_powers h) ≡ Some w → w ≡ s
 unfolding multiplied
-times_plain s w e =
+times_plain h s w e =
     sym (within_is _ w e)
     ∙ (λ i. powers (+ℤ_idr s.length i) (+ℤ_idr s.angle i) (+ℤ_idr s.time i) (+ℤ_idr s.frequency i) (+ℤ_idr s.resolution i) (+ℤ_idr s.flex i) (+ℤ_idr s.percent i) s.hint)
 
 -- a factor on plain ones gives its type
-pub plain_times : (t w : NumType) → t.hint ≡ None → multiplied (no_powers None) t ≡ Some w → w ≡ t
+pub plain_times : (g : Option Base) (t w : NumType) → t.hint ≡ g → multiplied (no_powers g) t ≡ Some w → w ≡ t
 unfolding multiplied
-plain_times t w h e =
+plain_times g t w h e =
     sym (within_is _ w e)
     ∙ (λ i. powers (+ℤ_idl t.length i) (+ℤ_idl t.angle i) (+ℤ_idl t.time i) (+ℤ_idl t.frequency i) (+ℤ_idl t.resolution i) (+ℤ_idl t.flex i) (+ℤ_idl t.percent i) (sym h i))
 

@@ -87,7 +87,7 @@ chosen_fine j (e ∷ es) h = parts_fine j e es (subst (λ o. AreFine (or_undefin
 abbrev pub HasKind : Option NumType → Type 0
 HasKind o = (t : NumType) × (o ≡ Some t)
 
-abbrev Fits : Shape → Type 0
+abbrev pub Fits : Shape → Type 0
 Fits s = HasKind s.kind × (s.fits ≡ true)
 
 added_kinds : (o p : Option NumType) → HasKind (added_next o p) → HasKind o × HasKind p
@@ -95,7 +95,7 @@ added_kinds None p h = absurd (none_some h.0 h.1)
 added_kinds (Some s) None h = absurd (none_some h.0 h.1)
 added_kinds (Some s) (Some t) h = ((s, refl), (t, refl))
 
-terms_fit : (s : Shape) (ss : List Shape) → Fits (fold added_shape s ss) → Fits s × Every Fits ss
+pub terms_fit : (s : Shape) (ss : List Shape) → Fits (fold added_shape s ss) → Fits s × Every Fits ss
 terms_fit s [] h = (h, tt)
 terms_fit s (t ∷ ts) h =
     let (both, rest) = terms_fit (added_shape s t) ts h in
@@ -103,7 +103,7 @@ terms_fit s (t ∷ ts) h =
     let (a, b) = and_both s.fits t.fits both.1 in
     ((first, a), ((second, b), rest))
 
-sum_fits : (ss : List Shape) → Fits (sum_shape ss) → Every Fits ss
+pub sum_fits : (ss : List Shape) → Fits (sum_shape ss) → Every Fits ss
 unfolding sum_shape
 sum_fits [] h = tt
 sum_fits (s ∷ ss) h = let (first, rest) = terms_fit s ss h in (first, rest)
@@ -125,7 +125,7 @@ unfolding all_fit
 all_parts [] h k = tt
 all_parts (s ∷ ss) h k = let (first, rest) = and_both s.fits (all_fit ss) k in ((h.0, first), all_parts ss h.1 rest)
 
-product_fits : (ss : List Shape) → Fits (product_shape ss) → Every Fits ss
+pub product_fits : (ss : List Shape) → Fits (product_shape ss) → Every Fits ss
 unfolding product_shape product_type product_under
 product_fits [] h = tt
 product_fits (s ∷ ss) h =

@@ -1,12 +1,14 @@
 -- Calculations that simplify to one number: those that are linear and have the type of a unit, as far as they have a value (CSS Values
 -- and Units 4, "Simplification"; which calculations are linear is this project's own).
-use Rattle.std.specs.Prelude.{◌≡◌, true, List, Some, Ok}
+use Rattle.std.specs.Prelude.{◌≡◌, Bool, true, false, ◌&&◌, ◌||◌, List, Option, Some, Ok}
 use Rattle.cv_ratio.specs.Ratio.{Ratio}
 use Rattle.cv_spec_text.specs.declared.token.Token.{Token}
+use Rattle.cv_calc.specs.declared.unit.Base.{Base}
+use Rattle.cv_calc.specs.declared.unit.Base.TheVariants.{Length}
 use Rattle.cv_calc.specs.declared.unit.NumType.{NumType}
 use Rattle.cv_calc.specs.declared.unit.Unit as units
-use Rattle.cv_calc.specs.declared.unit.Unit.TheVariants.{Percent}
-use Rattle.cv_calc.specs.declared.context.Basis.TheVariants.{Plain}
+use Rattle.cv_calc.specs.declared.unit.Unit.TheVariants.{Percent, Px}
+use Rattle.cv_calc.specs.declared.context.Basis.TheVariants.{Plain, Of}
 use Rattle.cv_calc.specs.declared.context.Context.{Context}
 use Rattle.cv_calc.specs.declared.calc.Calc.{Calc}
 use Rattle.cv_calc.specs.declared.calc.Calc.TheVariants.{Num}
@@ -40,3 +42,25 @@ AnswersHaveValues = (tokens : List Token) (c : Calc) → answer tokens ≡ Ok c 
 -- so it simplifies to one number in the canonical unit
 abbrev pub AnswersAreNumbers : Type 0
 AnswersAreNumbers = (x : Context) (u : units.Unit) (tokens : List Token) (c : Calc) → answer tokens ≡ Ok c → IsOfUnit x u c → (r : Ratio) × (simp x c ≡ Num r (canonical u))
+
+-- ---- percentages that are parts of a length
+
+abbrev pub hints_length : Option Base → Bool
+hints_length (Some Length) = true
+hints_length _ = false
+
+-- the type is that of a length, of a percentage, or of both together
+abbrev pub is_length_percentage : NumType → Bool
+is_length_percentage t =
+    same_powers t (unit_type Px) && no_hint t.hint || same_powers t (unit_type Percent) && no_hint t.hint || same_powers t (unit_type Px) && hints_length t.hint
+
+-- where a percentage is a part of a known length, such a calculation simplifies to its value in px
+abbrev pub LengthsSimplifyToValue : Type 0
+LengthsSimplifyToValue =
+    (x : Context) (f : Ratio) (c : Calc) (t : NumType) → x.basis ≡ Of f → is_linear c ≡ true → type_of c ≡ Some t → is_length_percentage t ≡ true →
+    (m : Meaning) → Agrees m x → (r : Ratio) → value m c ≡ Some r → simp x c ≡ Num r Px
+
+abbrev pub AnswersAreLengths : Type 0
+AnswersAreLengths =
+    (x : Context) (f : Ratio) (tokens : List Token) (c : Calc) (t : NumType) → x.basis ≡ Of f → answer tokens ≡ Ok c → is_linear c ≡ true → type_of c ≡ Some t → is_length_percentage t ≡ true →
+    (r : Ratio) × (simp x c ≡ Num r Px)
