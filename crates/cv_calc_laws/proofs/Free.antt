@@ -69,16 +69,16 @@ canonical_units c = folds_alike any canonical_step (units_step is_canonical) can
 
 -- ---- the texts
 
-canonical_passes : (u : units.Unit) → is_canonical u ≡ true → passes_if (is_other_unit true) (named u) ≡ true
-canonical_passes Em h = absurd (false_true h)
-canonical_passes Rem h = absurd (false_true h)
-canonical_passes Ex h = absurd (false_true h)
-canonical_passes Ch h = absurd (false_true h)
-canonical_passes Ic h = absurd (false_true h)
-canonical_passes u h = refl
+canonical_passes : (root : Bool) (u : units.Unit) → is_canonical u ≡ true → passes_if (is_other_unit root) (named u) ≡ true
+canonical_passes root Em h = absurd (false_true h)
+canonical_passes root Rem h = absurd (false_true h)
+canonical_passes root Ex h = absurd (false_true h)
+canonical_passes root Ch h = absurd (false_true h)
+canonical_passes root Ic h = absurd (false_true h)
+canonical_passes root u h = refl
 
-takes_canonical : TakesTexts (token_passes (is_other_unit true)) is_canonical
-takes_canonical = record {
+takes_canonical : (root : Bool) → TakesTexts (token_passes (is_other_unit root)) is_canonical
+takes_canonical root = record {
   white = refl;
   comma = refl;
   open_bracket = refl;
@@ -87,7 +87,7 @@ takes_canonical = record {
   delim = λ c. refl;
   number = λ spelling. refl;
   percentage = λ spelling. refl;
-  dimension = λ spelling u h. ap (passes_if (is_other_unit true)) (name_back u) ∙ canonical_passes u h;
+  dimension = λ spelling u h. ap (passes_if (is_other_unit root)) (name_back u) ∙ canonical_passes root u h;
 }
 
 takes_any : TakesTexts is_no_ident any
@@ -103,12 +103,12 @@ takes_any = record {
   dimension = λ spelling u h. refl;
 }
 
-canonical_free : (c : Calc) → holds_canonical c ≡ true → holds_no_font_unit true (calc_text c) ≡ true
-canonical_free c h = text_fine (token_passes (is_other_unit true)) is_canonical takes_canonical c (sym (canonical_units c) ∙ h)
+canonical_free : (root : Bool) (c : Calc) → holds_canonical c ≡ true → holds_no_font_unit root (calc_text c) ≡ true
+canonical_free root c h = text_fine (token_passes (is_other_unit root)) is_canonical (takes_canonical root) c (sym (canonical_units c) ∙ h)
 
 pub texts_are_free : TextsAreFree
 texts_are_free = record {
   canonical = canonical_free;
-  simplified = λ x c. canonical_free (simp x c) (simp_canonical x c);
+  simplified = λ root x c. canonical_free root (simp x c) (simp_canonical x c);
   no_ident = λ c. text_fine is_no_ident any takes_any c (holds_any c);
 }

@@ -176,13 +176,13 @@ module _ (m : Meaning) (x : Context) (ag : Agrees m x) (f : Ratio) (part : x.bas
 
 pub lengths_simplify_to_value : LengthsSimplifyToValue
 unfolding is_linear
-lengths_simplify_to_value x f c t part linear kind len m ag r has =
-    let (typed, fits) = and_both (has_type (shape c).kind) (shape c).fits linear in
-    let (v, is) = every_length m x ag f part c (t, kind_is_type c ∙ kind, len) fits (r, has) in
+lengths_simplify_to_value x c h m ag r has =
+    let (typed, fits) = and_both (has_type (shape c).kind) (shape c).fits h.linear in
+    let (v, is) = every_length m x ag h.whole h.part c (h.kind, kind_is_type c ∙ h.typed, h.taken) fits (r, has) in
     let same : v ≡ r = sym (mul_one v) ∙ some_same (mul v one_ratio) r (sym (value-Num m v Px) ∙ ap (value m) (sym is) ∙ simp_kept x c m ag r has) in
     is ∙ ap (λ w. Num w Px) same
 
 pub answers_are_lengths : AnswersAreLengths
-answers_are_lengths x f tokens c t part e linear kind len =
-    let (r, is) = answers_have_values tokens c e linear (meaning_of x) in
-    (r, lengths_simplify_to_value x f c t part linear kind len (meaning_of x) (meaning_agrees x) r is)
+answers_are_lengths x tokens c e h =
+    let (r, is) = answers_have_values tokens c e h.linear (meaning_of x) in
+    (r, lengths_simplify_to_value x c h (meaning_of x) (meaning_agrees x) r is)

@@ -63,6 +63,6 @@ is_no_ident t = true
 
 -- the text of a calculation in canonical units, as a simplified one is, holds no font unit, and no text holds an ident
 pub record TextsAreFree : Type 0 where
-  pub canonical : (c : Calc) → holds_canonical c ≡ true → holds_no_font_unit true (calc_text c) ≡ true
-  pub simplified : (x : Context) (c : Calc) → holds_no_font_unit true (calc_text (simp x c)) ≡ true
+  pub canonical : (root : Bool) (c : Calc) → holds_canonical c ≡ true → holds_no_font_unit root (calc_text c) ≡ true
+  pub simplified : (root : Bool) (x : Context) (c : Calc) → holds_no_font_unit root (calc_text (simp x c)) ≡ true
   pub no_ident : (c : Calc) → list_all is_no_ident (calc_text c) ≡ true

@@ -54,13 +54,18 @@ abbrev pub is_length_percentage : NumType → Bool
 is_length_percentage t =
     same_powers t (unit_type Px) && no_hint t.hint || same_powers t (unit_type Percent) && no_hint t.hint || same_powers t (unit_type Px) && hints_length t.hint
 
--- where a percentage is a part of a known length, such a calculation simplifies to its value in px
+-- it is linear and a length, a percentage or both together, and percentages are parts of a known length
+pub record IsOfLength (x : Context) (c : Calc) : Type 0 where
+  pub linear : is_linear c ≡ true
+  pub kind : NumType
+  pub typed : type_of c ≡ Some kind
+  pub taken : is_length_percentage kind ≡ true
+  pub whole : Ratio
+  pub part : x.basis ≡ Of whole
+
+-- such a calculation simplifies to its value in px
 abbrev pub LengthsSimplifyToValue : Type 0
-LengthsSimplifyToValue =
-    (x : Context) (f : Ratio) (c : Calc) (t : NumType) → x.basis ≡ Of f → is_linear c ≡ true → type_of c ≡ Some t → is_length_percentage t ≡ true →
-    (m : Meaning) → Agrees m x → (r : Ratio) → value m c ≡ Some r → simp x c ≡ Num r Px
+LengthsSimplifyToValue = (x : Context) (c : Calc) → IsOfLength x c → (m : Meaning) → Agrees m x → (r : Ratio) → value m c ≡ Some r → simp x c ≡ Num r Px
 
 abbrev pub AnswersAreLengths : Type 0
-AnswersAreLengths =
-    (x : Context) (f : Ratio) (tokens : List Token) (c : Calc) (t : NumType) → x.basis ≡ Of f → answer tokens ≡ Ok c → is_linear c ≡ true → type_of c ≡ Some t → is_length_percentage t ≡ true →
-    (r : Ratio) × (simp x c ≡ Num r Px)
+AnswersAreLengths = (x : Context) (tokens : List Token) (c : Calc) → answer tokens ≡ Ok c → IsOfLength x c → (r : Ratio) × (simp x c ≡ Num r Px)
