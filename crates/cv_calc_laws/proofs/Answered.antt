@@ -4,9 +4,7 @@ use Rattle.std.proofs.Common.{◌≡◌, refl, sym, ◌∙◌, ap, ℕ}
 use Rattle.cv_spec_text.specs.declared.token.Token.{Token}
 use Rattle.cv_calc.specs.declared.unit.NumType.{NumType}
 use Rattle.cv_calc.specs.declared.calc.Calc.{Calc}
-use Rattle.cv_calc.specs.Linear.{shape, is_linear, has_type}
 use Rattle.cv_calc.specs.Types.{type_of}
-use Rattle.cv_calc.specs.Value.{Meaning, value}
 use Rattle.cv_calcread.specs.Answer.{answer, after_tree, typed, after_type, after_literals, after_range, wide_place, divisor_place, divisor_places, is_marked}
 use Rattle.cv_calcread.specs.Figures.{evaluated}
 use Rattle.cv_calcread.specs.Literals.{exact_number}

@@ -1,17 +1,15 @@
 -- A linear calculation of the type of a unit that the reader answers simplifies to one number.
-use Rattle.std.specs.Prelude.{List, true, Ok, Option, Some, None}
-use Rattle.std.proofs.Common.{◌≡◌, refl, sym, ◌∙◌, ap}
+use Rattle.std.specs.Prelude.{true, Option, Some, None}
+use Rattle.std.proofs.Common.{◌≡◌, refl}
 use Rattle.cv_ratio.specs.Ratio.{Ratio, mul, one_ratio}
-use Rattle.cv_spec_text.specs.declared.token.Token.{Token}
 use Rattle.cv_calc.specs.declared.unit.NumType.{NumType}
 use Rattle.cv_calc.specs.declared.context.Basis.{Basis}
 use Rattle.cv_calc.specs.declared.context.Basis.TheVariants.{Plain, Length, Of}
 use Rattle.cv_calc.specs.declared.context.Context.{Context}
-use Rattle.cv_calc.specs.declared.calc.Calc.{Calc}
 use Rattle.cv_calc.specs.Factor.{hundredth, sizes_of}
 use Rattle.cv_calc.specs.Linear.{shape, is_linear, has_type}
-use Rattle.cv_calc.specs.Value.{Meaning, value}
-use Rattle.cv_calcread.specs.Answer.{answer, divisor_places}
+use Rattle.cv_calc.specs.Value.{Meaning}
+use Rattle.cv_calcread.specs.Answer.{divisor_places}
 use Rattle.cv_calcread.specs.Figures.{evaluated}
 use Rattle.cv_calcread.specs.Literals.{exact_number}
 use Rattle.cv_simplify.specs.Agrees.{Agrees, AgreesPercent}

@@ -1,17 +1,17 @@
 -- A calculation without font units is simplified alike in contexts that differ in these alone.
 use Rattle.std.specs.Prelude.{Bool, true, false, not, ◌&&◌, pos, map}
-use Rattle.std.proofs.Common.{◌≡◌, refl, sym, ◌∙◌, ap, ap₂}
+use Rattle.std.proofs.Common.{◌≡◌, refl, ap, ap₂}
 use Rattle.cv_ratio.specs.Ratio.{Ratio, ratio, mul}
 use Rattle.cv_ratio.specs.Order.{lesser, greater}
 use Rattle.cv_calc.specs.declared.unit.Unit as units
-use Rattle.cv_calc.specs.declared.unit.Unit.TheVariants.{Number, Percent, Px, Cm, Mm, Q, Inch, Pt, Pc, Em, Rem, Ex, Ch, Ic, Vw, Vh, Vmin, Vmax, Deg, Grad, Turn, S, Ms, Hz, Khz, Dppx, X, Dpi, Dpcm, Fr}
+use Rattle.cv_calc.specs.declared.unit.Unit.TheVariants.{Percent, Em, Rem, Ex, Ch, Ic, Vw, Vh, Vmin, Vmax}
 use Rattle.cv_calc.specs.declared.context.Context.{Context}
 use Rattle.cv_calc.specs.declared.calc.Calc.{Calc}
 use Rattle.cv_calc.specs.declared.calc.Calc.TheVariants as tree
 use Rattle.cv_calc.specs.declared.calc.Calc.TheOpen.{Calc-F}
 use Rattle.cv_calc.specs.declared.calc.Calc.TheOpen as layer
 use Rattle.cv_calc.specs.Factor.{canonical, factor, hundredth, sizes_of}
-use Rattle.cv_simplify.specs.Counted.{Counted, counted, counted_step, simple_of, counted_below, inside}
+use Rattle.cv_simplify.specs.Counted.{Counted, counted, counted_step, counted_below, inside}
 use Rattle.cv_simplify.specs.Simplified.{number_in, percent_in, one_or, choice_row, compares_percent, clamped, simp, simp_step}
 use Rattle.cv_calc_laws.specs.Fonts.{is_other_unit, has_no_font_unit, DifferInFonts, SimplifiesAlike}
 use Rattle.cv_calc_laws.proofs.Lists.{false_true}

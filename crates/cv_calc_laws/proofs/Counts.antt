@@ -1,8 +1,7 @@
 -- A calculation that is read has as many divisors as the list has slashes.
-use Rattle.std.specs.Prelude.{Bool, true, false, List, [], ◌∷◌, ◌++◌, map, fold, length, replicate, Option, Some, None, if◌then◌else◌}
-use Rattle.std.proofs.Common.{◌≡◌, ◌≤◌, ◌+◌, refl, sym, ◌∙◌, ap, ap₂, ℕ, zero, suc, arith, length-append}
+use Rattle.std.specs.Prelude.{Bool, true, false, List, [], ◌∷◌, ◌++◌, map, fold, length, replicate, Some, if◌then◌else◌}
+use Rattle.std.proofs.Common.{◌≡◌, ◌≤◌, ◌+◌, refl, sym, ◌∙◌, ap, ℕ, zero, suc, arith, length-append}
 use Rattle.cv_ratio.specs.Ratio.{Ratio, zero_ratio, one_ratio}
-use Rattle.cv_spec_text.specs.Characters.{solidus, asterisk}
 use Rattle.cv_spec_text.specs.declared.token.Bracket.TheVariants.{Round as RoundBracket}
 use Rattle.cv_spec_text.specs.declared.token.Token.{Token}
 use Rattle.cv_spec_text.specs.declared.token.Token.TheVariants.{Close}
@@ -11,7 +10,7 @@ use Rattle.cv_calc.specs.declared.unit.Unit.TheVariants as unit
 use Rattle.cv_calc.specs.declared.calc.Calc.{Calc}
 use Rattle.cv_calc.specs.declared.calc.Calc.TheVariants as tree
 use Rattle.cv_calcread.specs.Answer.{is_solidus, white_length, divisor_places}
-use Rattle.cv_calcread.specs.Figures.{Evaluated, evaluated, with_part, begun_with, chosen_next, or_undefined, sum_of, product_of, chosen_of}
+use Rattle.cv_calcread.specs.Figures.{Evaluated, evaluated, with_part, begun_with, chosen_next, or_undefined, chosen_of}
 use Rattle.cv_calcread.specs.Grammar.{Skips, none, white, ReadsAs, ReadsValue, literal, percent, measure, brackets, function, ReadsFactors, factor, times, over, ReadsTerms, term, added, taken, ReadsArguments, argument, further}
 use Rattle.cv_calcread.specs.Reading.{one_or, made, read}
 use Rattle.cv_calcread.specs.declared.figure.Joining.{Joining}

@@ -1,6 +1,6 @@
 -- Where a calculation has a value, its parts have one.
 use Rattle.std.specs.Prelude.{List, [], ◌∷◌, map, Option, Some, None, option_map}
-use Rattle.std.proofs.Common.{◌≡◌, refl, sym, ◌∙◌, ap}
+use Rattle.std.proofs.Common.{◌≡◌, refl}
 use Rattle.cv_ratio.specs.Ratio.{Ratio, add, mul, neg, reciprocal}
 use Rattle.cv_ratio.specs.Order.{lesser, greater}
 use Rattle.cv_calc.specs.declared.calc.Calc.{Calc}

@@ -1,12 +1,12 @@
 -- The factors of a linear product of a type without a hint: each is a plain number, or one has the product's type and each other is a
 -- plain number.
-use Rattle.std.specs.Prelude.{Bool, true, false, ◌&&◌, not, List, [], ◌∷◌, fold, map, Option, Some, None, if◌then◌else◌, ◌⊎◌}
+use Rattle.std.specs.Prelude.{Bool, true, false, not, List, [], ◌∷◌, fold, Option, Some, None, if◌then◌else◌, ◌⊎◌}
 use Rattle.std.specs.Option.{option_and_then}
 use Rattle.std.proofs.Common.{inl, inr, ◌≡◌, refl, sym, ◌∙◌, ap}
 use Rattle.cv_calc.specs.declared.unit.Base.{Base}
 use Rattle.cv_calc.specs.declared.unit.NumType.{NumType}
 use Rattle.cv_calc.specs.Linear.{shape, added_shape, is_measured, is_plain, kinds, none_measured, one_measured, product_shape, sum_shape, all_fit}
-use Rattle.cv_calc.specs.Types.{no_powers, added_next, multiplied, multiplied_next, shared_next, shared_hint, product_under, product_type, with_hint}
+use Rattle.cv_calc.specs.Types.{no_powers, multiplied, multiplied_next, shared_next, shared_hint, product_under, product_type, with_hint}
 use Rattle.cv_calc_laws.proofs.Lists.{Every, AllButOne, none_some, some_same, false_true, and_both, from_bound}
 use Rattle.cv_calc_laws.proofs.UnitTypes.{plain_is, added_next_same, times_plain, plain_times, product_has, shared_next_none}
 

@@ -1,5 +1,5 @@
 -- Two functions on calculations that differ only at numbers, of which the units that stand there are none.
-use Rattle.std.specs.Prelude.{Bool, true, false, ◌&&◌, List, [], ◌∷◌, map}
+use Rattle.std.specs.Prelude.{Bool, true, ◌&&◌, List, [], ◌∷◌, map}
 use Rattle.std.specs.List.{list_all}
 use Rattle.std.proofs.Common.{◌≡◌, refl, sym, ◌∙◌, ap, ap₂}
 use Rattle.cv_ratio.specs.Ratio.{Ratio}

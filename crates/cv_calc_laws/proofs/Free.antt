@@ -1,14 +1,11 @@
 -- Texts of calculations hold no ident, and those in canonical units no font unit.
-use Rattle.std.specs.Prelude.{Bool, true, false, ◌&&◌, List, [], ◌∷◌, map, Some, None}
+use Rattle.std.specs.Prelude.{Bool, true, ◌&&◌, List, [], ◌∷◌, map}
 use Rattle.std.specs.List.{list_all}
-use Rattle.std.proofs.Common.{◌≡◌, refl, sym, ◌∙◌, ap, ap₂}
-use Rattle.cv_spec_text.specs.declared.token.Token.{Token}
+use Rattle.std.proofs.Common.{◌≡◌, refl, sym, ◌∙◌, ap}
 use Rattle.cv_calc.specs.declared.unit.Unit as units
 use Rattle.cv_calc.specs.declared.unit.Unit.TheVariants.{Em, Rem, Ex, Ch, Ic}
-use Rattle.cv_calc.specs.declared.context.Context.{Context}
 use Rattle.cv_calc.specs.declared.calc.Calc.{Calc}
-use Rattle.cv_calc.specs.declared.calc.Calc.TheVariants as tree
-use Rattle.cv_calc.specs.Names.{unit_text, named, unit_with_name}
+use Rattle.cv_calc.specs.Names.{named}
 use Rattle.cv_calc.specs.Tree.{Each, by_cases}
 use Rattle.cv_calc.proofs.Units.{name_back}
 use Rattle.cv_simplify.specs.Canonical.{is_canonical, all_canonical, canonical_step, holds_canonical}

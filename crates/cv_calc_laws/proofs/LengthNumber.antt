@@ -1,5 +1,5 @@
 -- A linear length-percentage simplifies to one number of px, where percentages are parts of a known length.
-use Rattle.std.specs.Prelude.{Bool, true, false, ◌&&◌, List, [], ◌∷◌, map, fold, Ok, Option, Some, None, if◌then◌else◌}
+use Rattle.std.specs.Prelude.{true, ◌&&◌, List, [], ◌∷◌, map, fold}
 use Rattle.std.specs.Option.{option_and_then}
 use Rattle.std.proofs.Common.{inl, inr, ◌≡◌, refl, sym, ◌∙◌, ap, subst}
 use Rattle.cv_ratio.specs.Ratio.{Ratio, mul, one_ratio}
@@ -8,7 +8,6 @@ use Rattle.cv_ratio.proofs.Laws.{mul_one}
 use Rattle.cv_calc.specs.declared.unit.NumType.{NumType}
 use Rattle.cv_calc.specs.declared.unit.Unit as units
 use Rattle.cv_calc.specs.declared.unit.Unit.TheVariants.{Number, Percent, Px, Deg, Grad, Turn, S, Ms, Hz, Khz, Dppx, X, Dpi, Dpcm, Fr}
-use Rattle.cv_calc.specs.declared.context.Basis.{Basis}
 use Rattle.cv_calc.specs.declared.context.Basis.TheVariants.{Of}
 use Rattle.cv_calc.specs.declared.context.Context.{Context}
 use Rattle.cv_calc.specs.declared.calc.Calc.{Calc}
@@ -16,14 +15,14 @@ use Rattle.cv_calc.specs.declared.calc.Calc.TheOpen as layer
 use Rattle.cv_calc.specs.declared.calc.Calc.TheVariants.{Num, Sum, Product, Negate, Invert, Min, Max, Clamp}
 use Rattle.cv_calc.specs.Factor.{factor, hundredth, sizes_of}
 use Rattle.cv_calc.specs.Linear.{shape, added_shape, sum_shape, product_shape, inverted_shape, is_plain, is_linear, has_type}
-use Rattle.cv_calc.specs.Tree.{Each, by_cases, fold-Num, fold-Sum, fold-Product, fold-Negate, fold-Invert, fold-Min, fold-Max, fold-Clamp}
-use Rattle.cv_calc.specs.Types.{type_of, unit_type, negated}
+use Rattle.cv_calc.specs.Tree.{Each, by_cases, fold-Num, fold-Sum, fold-Product, fold-Negate, fold-Min, fold-Max, fold-Clamp}
+use Rattle.cv_calc.specs.Types.{unit_type, negated}
 use Rattle.cv_calc.specs.Value.{Meaning, value, both}
 use Rattle.cv_calc.proofs.FoundTypes.{kind_is_type}
 use Rattle.cv_calc.proofs.Shapes.{shape-Num, shape-Sum, shape-Product, shape-Negate, shape-Invert, shape-Min, shape-Max, shape-Clamp}
 use Rattle.cv_calc.proofs.Values.{value-Num, value-Sum, value-Negate}
 use Rattle.cv_simplify.specs.Agrees.{Agrees}
-use Rattle.cv_simplify.specs.Simplified.{percent_in, number_in, compares_percent, may_compare, simp, simp_step}
+use Rattle.cv_simplify.specs.Simplified.{percent_in, number_in, compares_percent, simp, simp_step}
 use Rattle.cv_simplify.proofs.Kept.{simp_kept}
 use Rattle.cv_calc_laws.specs.Single.{is_length_percentage, LengthsSimplifyToValue, AnswersAreLengths}
 use Rattle.cv_calc_laws.proofs.Lists.{Every, AllButOne, none_some, some_same, false_true, and_both}

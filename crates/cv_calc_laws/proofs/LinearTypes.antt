@@ -1,7 +1,6 @@
 -- The types of linear calculations: that of a unit, or that of a percentage which stands for a base.
-use Rattle.std.specs.Prelude.{Bool, true, false, ◌&&◌, ◌||◌, not, ℤ, pos, List, [], ◌∷◌, Option, Some, None, if◌then◌else◌, ◌⊎◌}
+use Rattle.std.specs.Prelude.{Bool, true, false, ◌&&◌, List, [], ◌∷◌, Option, Some, None, if◌then◌else◌, ◌⊎◌}
 use Rattle.std.specs.List.{list_all}
-use Rattle.std.specs.Option.{option_and_then}
 use Rattle.std.proofs.Common.{inl, inr, ◌≡◌, refl, sym, ◌∙◌, ap, subst}
 use denote.Enum.Bare.{sameb, same_true}
 use Rattle.cv_calc.specs.contracts.unit.Base.{the_type}
@@ -10,9 +9,9 @@ use Rattle.cv_calc.specs.declared.unit.Base.TheVariants.{Length, Angle, Time, Fr
 use Rattle.cv_calc.specs.declared.unit.NumType.{NumType}
 use Rattle.cv_calc.specs.declared.unit.Unit as units
 use Rattle.cv_calc.specs.declared.unit.Unit.TheVariants.{Number, Percent, Px, Cm, Mm, Q, Inch, Pt, Pc, Em, Rem, Ex, Ch, Ic, Vw, Vh, Vmin, Vmax, Deg, Grad, Turn, S, Ms, Hz, Khz, Dppx, X, Dpi, Dpcm, Fr}
-use Rattle.cv_calc.specs.Types.{added, tried_all, moved, no_powers, same_powers, unit_type, with_hint}
+use Rattle.cv_calc.specs.Types.{added, tried_all, moved, same_powers, unit_type, with_hint}
 use Rattle.cv_calc_laws.specs.Single.{is_length_percentage}
-use Rattle.cv_calc_laws.proofs.Lists.{Every, none_some, some_same, false_true, and_both}
+use Rattle.cv_calc_laws.proofs.Lists.{Every, false_true, and_both}
 use Rattle.cv_calc_laws.proofs.UnitTypes.{same_type}
 
 abbrev pub IsAmong : List NumType → NumType → Type 0
@@ -115,7 +114,7 @@ all_pass = refl
 passes : (s t : NumType) → IsLinearType s → IsLinearType t → sum_passes s t (added s t) ≡ true
 passes s t h k =
     let row : list_all (λ t. sum_passes s t (added s t)) types ≡ true
-            = of_each (λ s. list_all (λ t. sum_passes s t (added s t)) types ≡ true) types (tested (λ s. list_all (λ t. sum_passes s t (added s t)) types) types all_pass) s h in
+    = of_each (λ s. list_all (λ t. sum_passes s t (added s t)) types ≡ true) types (tested (λ s. list_all (λ t. sum_passes s t (added s t)) types) types all_pass) s h in
     of_each (λ t. sum_passes s t (added s t) ≡ true) types (tested (λ t. sum_passes s t (added s t)) types row) t k
 
 pub sum_is_linear : (s t w : NumType) → IsLinearType s → IsLinearType t → added s t ≡ Some w → IsLinearType w × (is_length_percentage w ≡ true → (is_length_percentage s ≡ true) × (is_length_percentage t ≡ true))

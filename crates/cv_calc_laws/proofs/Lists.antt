@@ -1,6 +1,6 @@
 -- Facts of each item of a list, and of options.
-use Rattle.std.specs.Prelude.{Bool, true, false, ◌&&◌, List, [], ◌∷◌, map, Option, Some, None, ◌⊎◌}
-use Rattle.std.proofs.Common.{inl, inr, ◌≡◌, refl}
+use Rattle.std.specs.Prelude.{Bool, true, false, ◌&&◌, List, [], ◌∷◌, Option, Some, None, ◌⊎◌}
+use Rattle.std.proofs.Common.{◌≡◌, refl}
 use Rattle.std.specs.Option.{option_and_then}
 
 -- each item has the property

@@ -1,11 +1,11 @@
 -- The factors of a linear product: each is a plain number, or one has the product's type and each other is a plain number.
-use Rattle.std.specs.Prelude.{Bool, true, false, ◌&&◌, not, List, [], ◌∷◌, fold, Option, Some, None, if◌then◌else◌, ◌⊎◌}
+use Rattle.std.specs.Prelude.{Bool, true, false, List, [], ◌∷◌, fold, Option, Some, None, if◌then◌else◌, ◌⊎◌}
 use Rattle.std.specs.Option.{option_and_then}
 use Rattle.std.proofs.Common.{inl, inr, ◌≡◌, refl, sym, ◌∙◌, ap}
 use Rattle.cv_calc.specs.declared.unit.Base.{Base}
 use Rattle.cv_calc.specs.declared.unit.Base.TheVariants.{Length, Angle, Time, Frequency, Resolution, Flex}
 use Rattle.cv_calc.specs.declared.unit.NumType.{NumType}
-use Rattle.cv_calc.specs.Linear.{is_measured, is_plain, kinds, none_measured, one_measured, product_shape, all_fit}
+use Rattle.cv_calc.specs.Linear.{is_measured, kinds, none_measured, one_measured, product_shape, all_fit}
 use Rattle.cv_calc.specs.Types.{no_powers, multiplied, multiplied_next, shared, shared_next, shared_hint, product_under, product_type, with_hint}
 use Rattle.cv_calc_laws.proofs.Lists.{Every, AllButOne, none_some, some_same, false_true, and_both, from_bound}
 use Rattle.cv_calc_laws.proofs.UnitTypes.{times_plain, plain_times}
@@ -94,14 +94,14 @@ one_product h w (t ∷ ts) (inl k) hint e =
     let (p, made, rest) = next h (no_powers h) (no_powers h) t plain ts w k.0 (plain_under h) e in
     let same : p ≡ no_powers h = times_plain h (no_powers h) p made in
     inl (
-        k.0,
-        one_product h w ts k.1 (ap (λ o. fold shared_next (shared_next (Some None) o) (kinds ts)) (sym k.0) ∙ hint)
-            (ap (λ s. fold (multiplied_next h) (Some s) (kinds ts)) (sym same) ∙ rest),
+      k.0,
+      one_product h w ts k.1 (ap (λ o. fold shared_next (shared_next (Some None) o) (kinds ts)) (sym k.0) ∙ hint)
+          (ap (λ s. fold (multiplied_next h) (Some s) (kinds ts)) (sym same) ∙ rest),
     )
 one_product h w (t ∷ ts) (inr k) hint e =
     let v : NumType = k.0.0 in
     let under : v.hint ≡ h =
-            some_same v.hint h (sym (ap (λ o. fold shared_next (shared_next (Some None) o) (kinds ts)) k.0.1 ∙ hint_rest v.hint ts k.1) ∙ hint) in
+    some_same v.hint h (sym (ap (λ o. fold shared_next (shared_next (Some None) o) (kinds ts)) k.0.1 ∙ hint_rest v.hint ts k.1) ∙ hint) in
     let (p, made, rest) = next h (no_powers h) v t v ts w k.0.1 (ap (λ g. with_hint g v) (sym under) ∙ k.0.2) e in
     let same : w ≡ v = plain_rest h p w ts k.1 rest ∙ plain_times h v p under made in
     inr (k.0.1 ∙ ap Some (sym same), k.1)

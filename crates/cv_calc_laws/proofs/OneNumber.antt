@@ -1,5 +1,5 @@
 -- A linear calculation of the type of a unit simplifies to one number, which is its value.
-use Rattle.std.specs.Prelude.{Bool, true, false, ◌&&◌, not, List, [], ◌∷◌, map, Option, Some, None, if◌then◌else◌}
+use Rattle.std.specs.Prelude.{Bool, true, false, ◌&&◌, not, List, [], ◌∷◌, map, Some, if◌then◌else◌}
 use Rattle.std.specs.Option.{option_and_then}
 use Rattle.std.proofs.Common.{inl, inr, ◌≡◌, refl, sym, ◌∙◌, ap, subst}
 use Rattle.cv_ratio.specs.Ratio.{Ratio, mul, one_ratio, reciprocal}
@@ -14,18 +14,18 @@ use Rattle.cv_calc.specs.declared.calc.Calc.{Calc}
 use Rattle.cv_calc.specs.declared.calc.Calc.TheOpen as layer
 use Rattle.cv_calc.specs.declared.calc.Calc.TheVariants.{Num, Sum, Product, Negate, Invert, Min, Max, Clamp}
 use Rattle.cv_calc.specs.Factor.{canonical, factor, sizes_of}
-use Rattle.cv_calc.specs.Linear.{shape, sum_shape, product_shape, inverted_shape, added_shape, is_plain, is_linear, has_type}
+use Rattle.cv_calc.specs.Linear.{shape, sum_shape, product_shape, inverted_shape, is_plain, is_linear, has_type}
 use Rattle.cv_calc.specs.Tree.{Each, by_cases, fold-Num, fold-Sum, fold-Product, fold-Negate, fold-Invert, fold-Min, fold-Max, fold-Clamp}
-use Rattle.cv_calc.specs.Types.{type_of, unit_type, negated, product_type}
+use Rattle.cv_calc.specs.Types.{unit_type, negated, product_type}
 use Rattle.cv_calc.specs.Unit.{same_unit}
 use Rattle.cv_calc.specs.Value.{Meaning, unit_value, value, both}
 use Rattle.cv_calc.proofs.FoundTypes.{kind_is_type}
 use Rattle.cv_calc.proofs.Shapes.{shape-Num, shape-Sum, shape-Product, shape-Negate, shape-Invert, shape-Min, shape-Max, shape-Clamp}
 use Rattle.cv_calc.proofs.Values.{value-Num, value-Sum, value-Negate, value-Invert}
 use Rattle.cv_simplify.specs.Agrees.{Agrees, AgreesPercent}
-use Rattle.cv_simplify.specs.Simplified.{percent_in, number_in, compares_percent, may_compare, simp, simp_step, inverted}
+use Rattle.cv_simplify.specs.Simplified.{percent_in, number_in, compares_percent, may_compare, simp, simp_step}
 use Rattle.cv_simplify.proofs.Kept.{simp_kept}
-use Rattle.cv_calc_laws.specs.Single.{IsOfUnit, SimplifiesToValue}
+use Rattle.cv_calc_laws.specs.Single.{SimplifiesToValue}
 use Rattle.cv_calc_laws.proofs.Lists.{Every, AllButOne, none_some, some_same, false_true, and_both}
 use Rattle.cv_calc_laws.proofs.UnitTypes.{same_canonical, unit_hint, plain_is, plain_unit}
 use Rattle.cv_calc_laws.proofs.Factors.{Shape, IsPart, plain, terms_are, sum_parts, FactorsAre, product_parts}
@@ -179,6 +179,6 @@ simplifies_to_value x u c h m ag r has =
     let (typed, fits) = and_both (has_type (shape c).kind) (shape c).fits h.linear in
     let (v, is) = every_calc m x ag c u (may x.basis u h.plain) (kind_is_type c ∙ h.kind, fits) (r, has) in
     let same : v ≡ r =
-        sym (mul_one v) ∙ ap (mul v) (sym (one_is_one m x ag u h.plain))
-        ∙ some_same (mul v (unit_value m (canonical u))) r (sym (value-Num m v (canonical u)) ∙ ap (value m) (sym is) ∙ simp_kept x c m ag r has) in
+    sym (mul_one v) ∙ ap (mul v) (sym (one_is_one m x ag u h.plain))
+    ∙ some_same (mul v (unit_value m (canonical u))) r (sym (value-Num m v (canonical u)) ∙ ap (value m) (sym is) ∙ simp_kept x c m ag r has) in
     is ∙ ap (λ w. Num w (canonical u)) same

@@ -1,5 +1,5 @@
 -- The row of a product of numbers, of which one may have a unit.
-use Rattle.std.specs.Prelude.{Bool, true, false, ◌&&◌, List, [], ◌∷◌, fold, Option, Some, None, if◌then◌else◌, ◌⊎◌}
+use Rattle.std.specs.Prelude.{Bool, true, false, ◌&&◌, List, [], ◌∷◌, fold, Option, Some, None, if◌then◌else◌}
 use Rattle.std.proofs.Common.{inl, inr, ◌≡◌, refl, sym, ◌∙◌, ap, ap₂, subst}
 use Rattle.cv_ratio.specs.Ratio.{Ratio, mul}
 use Rattle.cv_calc.specs.declared.unit.Unit as units
@@ -10,7 +10,7 @@ use Rattle.cv_calc.specs.Tree.{out-Num}
 use Rattle.cv_calc.specs.Unit.{same_unit}
 use Rattle.cv_simplify.specs.Simplified.{joined_as, joined_by, join_first, with_child, factors_as, is_number, with_factors_of, product_row, number_as, number_of, scaled_as, scaled, scaled_pair, or_else, product_as, multiplied}
 use Rattle.cv_calc_laws.proofs.Lists.{Every, AllButOne}
-use Rattle.cv_calc_laws.proofs.Rows.{IsNum, IsOne, row_one}
+use Rattle.cv_calc_laws.proofs.Rows.{IsNum, row_one}
 
 abbrev number : Ratio → Calc
 number v = tree.Num v Number
@@ -106,18 +106,16 @@ module _ (u : units.Unit) (other : is_number u ≡ false) where
 
   mixed_product : (row : List Calc) → IsMixed row → IsNum u (product_as row)
   mixed_product _ (alone w) = (w, refl)
-  mixed_product _ (before n w) =
-      (
-        mul n w,
-        ap₂ (λ o p. or_else (scaled_pair o p (number n) (measure w)) (tree.Product (number n ∷ measure w ∷ []))) (number_of_number n) (number_of_measure w)
+  mixed_product _ (before n w) = (
+    mul n w,
+    ap₂ (λ o p. or_else (scaled_pair o p (number n) (measure w)) (tree.Product (number n ∷ measure w ∷ []))) (number_of_number n) (number_of_measure w)
         ∙ ap (λ o. or_else o (tree.Product (number n ∷ measure w ∷ []))) (scaled_measure n w),
-      )
-  mixed_product _ (behind w n) =
-      (
-        mul n w,
-        ap₂ (λ o p. or_else (scaled_pair o p (measure w) (number n)) (tree.Product (measure w ∷ number n ∷ []))) (number_of_measure w) (number_of_number n)
+  )
+  mixed_product _ (behind w n) = (
+    mul n w,
+    ap₂ (λ o p. or_else (scaled_pair o p (measure w) (number n)) (tree.Product (measure w ∷ number n ∷ []))) (number_of_measure w) (number_of_number n)
         ∙ ap (λ o. or_else o (tree.Product (measure w ∷ number n ∷ []))) (scaled_measure n w),
-      )
+  )
 
   pub multiplied_mixed : (ds : List Calc) → AllButOne (IsNum Number) (IsNum u) ds → IsNum u (multiplied ds)
   multiplied_mixed ds k = mixed_product (product_row ds) (mixed_row [] ds nothing k)

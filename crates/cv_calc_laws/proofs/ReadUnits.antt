@@ -1,25 +1,19 @@
 -- What is read of a list has no other units than the list.
-use Rattle.std.specs.Prelude.{Bool, true, false, not, ◌&&◌, List, [], ◌∷◌, ◌++◌, map, replicate, zero, suc, Result, Ok, Err, Option, Some, None}
+use Rattle.std.specs.Prelude.{Bool, true, not, ◌&&◌, List, [], ◌∷◌, ◌++◌, map, replicate, zero, suc, Some}
 use Rattle.std.specs.List.{list_all}
-use Rattle.std.proofs.Common.{◌≡◌, refl, sym, ◌∙◌, ap, ap₂, ℕ}
+use Rattle.std.proofs.Common.{◌≡◌, refl, sym, ◌∙◌, ap, ℕ}
 use Rattle.cv_ratio.specs.Ratio.{Ratio}
 use Rattle.cv_spec_text.specs.declared.token.Bracket.TheVariants.{Round as RoundBracket}
 use Rattle.cv_spec_text.specs.declared.token.Token.{Token}
-use Rattle.cv_spec_text.specs.declared.token.Token.TheVariants.{White, Close, Comma}
+use Rattle.cv_spec_text.specs.declared.token.Token.TheVariants.{Close}
 use Rattle.cv_calc.specs.declared.unit.Unit as units
 use Rattle.cv_calc.specs.declared.unit.Unit.TheVariants as unit
-use Rattle.cv_calc.specs.declared.unit.NumType.{NumType}
 use Rattle.cv_calc.specs.declared.calc.Calc.{Calc}
 use Rattle.cv_calc.specs.declared.calc.Calc.TheVariants as tree
 use Rattle.cv_calc.specs.Names.{unit_with_name}
-use Rattle.cv_calc.specs.Types.{type_of}
-use Rattle.cv_calcread.specs.Answer.{answer, after_tree, typed, ranged, after_type, divided, after_literals, after_range, wide_place, divisor_place, divisor_places, is_marked}
-use Rattle.cv_calcread.specs.Figures.{evaluated}
 use Rattle.cv_calcread.specs.Grammar.{Skips, none, white, ReadsAs, ReadsValue, literal, percent, measure, brackets, function, ReadsFactors, factor, times, over, ReadsTerms, term, added, taken, ReadsArguments, argument, further}
 use Rattle.cv_calcread.specs.Literals.{exact_number}
 use Rattle.cv_calcread.specs.Reading.{one_or, made, read}
-use Rattle.cv_calcread.specs.declared.error.CalcErr.{CalcErr}
-use Rattle.cv_calcread.specs.declared.figure.Mark.TheVariants.{Far, Null}
 use Rattle.cv_calcread.specs.declared.level.Opened.{Opened}
 use Rattle.cv_calcread.specs.declared.level.Opened.TheVariants as opening
 use Rattle.cv_calcread.proofs.Whole.{grammar_is_read}

@@ -1,7 +1,7 @@
 -- Rows of numbers of one unit, and of numbers of which one has a unit.
-use Rattle.std.specs.Prelude.{Bool, true, false, ◌&&◌, not, List, [], ◌∷◌, fold, Option, Some, None, if◌then◌else◌, ◌⊎◌}
-use Rattle.std.proofs.Common.{inl, inr, ◌≡◌, refl, sym, ◌∙◌, ap, ap₂, subst}
-use Rattle.cv_ratio.specs.Ratio.{Ratio, add, mul, neg, reciprocal}
+use Rattle.std.specs.Prelude.{Bool, true, List, [], ◌∷◌, fold, Some}
+use Rattle.std.proofs.Common.{◌≡◌, refl, ◌∙◌, ap, ap₂}
+use Rattle.cv_ratio.specs.Ratio.{Ratio, add, neg, reciprocal}
 use Rattle.cv_ratio.specs.Order.{lesser, greater}
 use Rattle.cv_calc.specs.declared.unit.Unit as units
 use Rattle.cv_calc.specs.declared.unit.Unit.TheVariants.{Number}
@@ -9,9 +9,8 @@ use Rattle.cv_calc.specs.declared.calc.Calc.{Calc}
 use Rattle.cv_calc.specs.declared.calc.Calc.TheVariants as tree
 use Rattle.cv_calc.specs.declared.calc.Calc.TheOpen as layer
 use Rattle.cv_calc.specs.Tree.{out-Num}
-use Rattle.cv_calc.specs.Unit.{same_unit}
-use Rattle.cv_simplify.specs.Simplified.{joined_as, joined_by, join_first, with_child, one_or, any_unit, terms_as, with_terms_of, sum_row, summed, factors_as, is_number, with_factors_of, product_row, number_as, number_of, scaled_as, scaled, scaled_pair, or_else, product_as, multiplied, may_compare, choice_row, number_clamped_as, number_clamped, clamped_as, clamped, negated_as, negated, inverse_or, inverted_as, inverted}
-use Rattle.cv_calc_laws.proofs.Lists.{Every, AllButOne}
+use Rattle.cv_simplify.specs.Simplified.{joined_as, joined_by, join_first, with_child, one_or, any_unit, terms_as, with_terms_of, sum_row, summed, may_compare, choice_row, number_clamped_as, number_clamped, clamped_as, clamped, negated_as, negated, inverse_or, inverted_as, inverted}
+use Rattle.cv_calc_laws.proofs.Lists.{Every}
 use Rattle.cv_calc_laws.proofs.Named.{same_unit-refl}
 
 -- it is a number of the unit
@@ -60,9 +59,8 @@ module _ (u : units.Unit) where
   pub clamped_one : (b : Bool) → may_compare b u ≡ true → (l m h : Calc) → IsNum u l → IsNum u m → IsNum u h → IsNum u (clamped b l m h)
   clamped_one b ok l m h (v, p) (w, q) (z, r) =
       let opened : number_clamped b (tree.Num v u) (tree.Num w u) (tree.Num z u) ≡ number_clamped_as b (layer.Num v u) (layer.Num w u) (layer.Num z u)
-              = λ i. number_clamped_as b (out-Num v u i) (out-Num w u i) (out-Num z u i) in
-      let is : number_clamped_as b (layer.Num v u) (layer.Num w u) (layer.Num z u) ≡ Some (greater v (lesser w z), u) = rw (same_unit-refl u, ok) refl in
-      (
+      = λ i. number_clamped_as b (out-Num v u i) (out-Num w u i) (out-Num z u i) in
+      let is : number_clamped_as b (layer.Num v u) (layer.Num w u) (layer.Num z u) ≡ Some (greater v (lesser w z), u) = rw (same_unit-refl u, ok) refl in (
         greater v (lesser w z),
         (λ i. clamped b (p i) (q i) (r i)) ∙ ap (λ o. clamped_as o (tree.Num v u) (tree.Num w u) (tree.Num z u)) (opened ∙ is),
       )

@@ -1,16 +1,13 @@
 -- Each linear calculation has one of the linear types, and a sum is a length only where its terms are.
-use Rattle.std.specs.Prelude.{Bool, true, false, ◌&&◌, List, [], ◌∷◌, map, fold, Option, Some, None}
+use Rattle.std.specs.Prelude.{true, ◌&&◌, List, [], ◌∷◌, map, fold, Some}
 use Rattle.std.specs.Option.{option_and_then}
 use Rattle.std.proofs.Common.{inl, inr, ◌≡◌, refl, sym, ◌∙◌, ap, ap₂, subst}
-use Rattle.cv_ratio.specs.Ratio.{Ratio}
 use Rattle.cv_calc.specs.declared.unit.NumType.{NumType}
-use Rattle.cv_calc.specs.declared.unit.Unit as units
 use Rattle.cv_calc.specs.declared.unit.Unit.TheVariants.{Number}
 use Rattle.cv_calc.specs.declared.calc.Calc.{Calc}
-use Rattle.cv_calc.specs.declared.calc.Calc.TheVariants.{Num, Sum, Product, Negate, Invert, Min, Max, Clamp}
 use Rattle.cv_calc.specs.Linear.{shape, added_shape, sum_shape, product_shape, inverted_shape, is_plain}
 use Rattle.cv_calc.specs.Tree.{Each, by_cases}
-use Rattle.cv_calc.specs.Types.{added_next, negated, unit_type, with_hint}
+use Rattle.cv_calc.specs.Types.{added_next, negated, unit_type}
 use Rattle.cv_calc.proofs.Shapes.{shape-Num, shape-Sum, shape-Product, shape-Negate, shape-Invert, shape-Min, shape-Max, shape-Clamp}
 use Rattle.cv_calc_laws.specs.Single.{is_length_percentage}
 use Rattle.cv_calc_laws.proofs.Lists.{Every, AllButOne, none_some, some_same, and_both}
@@ -34,25 +31,23 @@ Ends end s ss = Typed end × (IsLength end → IsLength s × Every IsLength ss)
 two_typed : (s t : Shape) → Typed s → Typed t → Fits (added_shape s t) → Ends (added_shape s t) s (t ∷ [])
 two_typed s t (a, s_is, s_linear) (b, t_is, t_linear) fits =
     let v : NumType = fits.0.0 in
-    let (linear, back) = sum_is_linear a b v s_linear t_linear (ap₂ added_next (sym s_is) (sym t_is) ∙ fits.0.1) in
-    (
-        (v, fits.0.1, linear),
-        λ l.
-            let (first, second) = back (ap is_length_percentage (some_same v l.0 (sym fits.0.1 ∙ l.1)) ∙ l.2) in
-            ((a, s_is, first), ((b, t_is, second), tt)),
+    let (linear, back) = sum_is_linear a b v s_linear t_linear (ap₂ added_next (sym s_is) (sym t_is) ∙ fits.0.1) in (
+      (v, fits.0.1, linear),
+      λ l.
+          let (first, second) = back (ap is_length_percentage (some_same v l.0 (sym fits.0.1 ∙ l.1)) ∙ l.2) in
+          ((a, s_is, first), ((b, t_is, second), tt)),
     )
 
 terms_typed : (s : Shape) (ss : List Shape) → Typed s → Every Typed ss → Fits (fold added_shape s ss) → Ends (fold added_shape s ss) s ss
 terms_typed s [] h k fits = (h, λ l. (l, tt))
 terms_typed s (t ∷ ts) h k fits =
     let two : Ends (added_shape s t) s (t ∷ []) = two_typed s t h k.0 (terms_fit (added_shape s t) ts fits).0 in
-    let (typed, back) = terms_typed (added_shape s t) ts two.0 k.1 fits in
-    (
-        typed,
-        λ l.
-            let (front, rest) = back l in
-            let (first, second) = two.1 front in
-            (first, (second.0, rest)),
+    let (typed, back) = terms_typed (added_shape s t) ts two.0 k.1 fits in (
+      typed,
+      λ l.
+          let (front, rest) = back l in
+          let (first, second) = two.1 front in
+          (first, (second.0, rest)),
     )
 
 abbrev SumEnds : List Shape → Type 0

@@ -1,8 +1,8 @@
 -- The types of units, and types without a hint.
-use Rattle.std.specs.Prelude.{Bool, true, false, ◌&&◌, ◌||◌, not, ℤ, pos, ◌+ℤ◌, Option, Some, None, if◌then◌else◌}
+use Rattle.std.specs.Prelude.{Bool, true, false, ◌||◌, ℤ, pos, ◌+ℤ◌, Option, Some, None, if◌then◌else◌}
 use Rattle.std.specs.Option.{option_and_then}
 use Rattle.std.specs.Ordering.{int_eq}
-use Rattle.std.proofs.Common.{◌≡◌, refl, sym, ◌∙◌, ap, ap₂}
+use Rattle.std.proofs.Common.{◌≡◌, refl, sym, ◌∙◌, ap}
 use Rattle.std.proofs.lemmas.Bool.Decides.{Decides-int_eq}
 use Rattle.std.proofs.Math.IntN.{+ℤ_idl, +ℤ_idr}
 use denote.Enum.Bare.{sameb}
@@ -14,7 +14,7 @@ use Rattle.cv_calc.specs.declared.unit.Unit as units
 use Rattle.cv_calc.specs.declared.unit.Unit.TheVariants.{Number, Percent, Px, Cm, Mm, Q, Inch, Pt, Pc, Em, Rem, Ex, Ch, Ic, Vw, Vh, Vmin, Vmax, Deg, Grad, Turn, S, Ms, Hz, Khz, Dppx, X, Dpi, Dpcm, Fr}
 use Rattle.cv_calc.specs.Factor.{canonical}
 use Rattle.cv_calc.specs.Linear.{no_hint, is_plain}
-use Rattle.cv_calc.specs.Types.{power_fits, if_fits, within, powers, no_powers, unit_type, moved, hinted, with_hint, shared, if_equal, same_powers, has_percent, if_same, tried, else_tried, tried_all, added_alike, added, added_next, multiplied, multiplied_next, shared_next}
+use Rattle.cv_calc.specs.Types.{power_fits, if_fits, within, powers, no_powers, unit_type, moved, hinted, with_hint, shared, if_equal, same_powers, has_percent, if_same, tried, else_tried, tried_all, added_alike, added, added_next, multiplied, shared_next}
 use Rattle.cv_simplify.specs.Simplified.{is_number}
 use Rattle.cv_calc_laws.specs.Single.{TypesAreTold}
 use Rattle.cv_calc_laws.proofs.Lists.{none_some, some_same, false_true, and_both, from_bound}

@@ -1,5 +1,5 @@
 -- A linear calculation of which no divisor is refused has a value.
-use Rattle.std.specs.Prelude.{Bool, true, false, ◌&&◌, not, pos, negsuc, ℤ, List, [], ◌∷◌, ◌++◌, map, fold, length, Option, Some, None, option_map, if◌then◌else◌}
+use Rattle.std.specs.Prelude.{Bool, true, false, ◌&&◌, pos, negsuc, ℤ, List, [], ◌∷◌, ◌++◌, map, fold, length, Option, Some, None, option_map, if◌then◌else◌}
 use Rattle.std.specs.Option.{option_and_then}
 use Rattle.std.specs.Ordering.{int_eq}
 use Rattle.std.proofs.Common.{◌≡◌, ◌≤◌, refl, sym, ◌∙◌, ap, ap₂, subst, ℕ, zero, suc, arith}
@@ -8,26 +8,25 @@ use Rattle.cv_ratio.specs.Order.{lesser, greater}
 use Rattle.cv_exact.specs.Zero.{is_zero}
 use Rattle.cv_calc.specs.declared.unit.Base.{Base}
 use Rattle.cv_calc.specs.declared.unit.NumType.{NumType}
-use Rattle.cv_calc.specs.declared.unit.Unit as units
 use Rattle.cv_calc.specs.declared.calc.Calc.{Calc}
-use Rattle.cv_calc.specs.declared.calc.Calc.TheVariants.{Num, Sum, Product, Negate, Invert, Min, Max, Clamp}
+use Rattle.cv_calc.specs.declared.calc.Calc.TheVariants.{Invert, Clamp}
 use Rattle.cv_calc.specs.Linear.{shape, added_shape, sum_shape, product_shape, inverted_shape, kinds, all_fit, one_measured, is_plain}
 use Rattle.cv_calc.specs.Numbers.{Figure, measured, undefined, inside, outside, figure}
 use Rattle.cv_calc.specs.Tree.{Each, by_cases}
-use Rattle.cv_calc.specs.Types.{added, added_next, multiplied, multiplied_next, with_hint, no_powers, shared_hint, sum_type, product_type, product_under, negated}
+use Rattle.cv_calc.specs.Types.{added_next, multiplied_next, no_powers, shared_hint, product_type, product_under, negated}
 use Rattle.cv_calc.specs.Value.{Meaning, unit_value, value, both, sum_of, product_of, chosen_of, inverse_of}
-use Rattle.cv_calc.proofs.Shapes.{shape-Num, shape-Sum, shape-Product, shape-Negate, shape-Invert, shape-Min, shape-Max, shape-Clamp}
+use Rattle.cv_calc.proofs.Shapes.{shape-Sum, shape-Product, shape-Negate, shape-Invert, shape-Min, shape-Max, shape-Clamp}
 use Rattle.cv_calc.proofs.Told.{figures_are_values}
 use Rattle.cv_calc.proofs.Values.{value-Num, value-Sum, value-Negate, value-Invert}
 use Rattle.cv_calcread.specs.Answer.{divisor_place, is_marked}
-use Rattle.cv_calcread.specs.Figures.{Evaluated, evaluated, mark_of, with_part, begun_with, chosen_next, or_undefined, sum_of as evaluated_sum, product_of as evaluated_product, chosen_of as evaluated_choice, clamped, opposite, divided}
+use Rattle.cv_calcread.specs.Figures.{Evaluated, evaluated, mark_of, with_part, begun_with, chosen_next, or_undefined, chosen_of as evaluated_choice, divided}
 use Rattle.cv_calcread.specs.declared.figure.Joining.{Joining}
 use Rattle.cv_calcread.specs.declared.figure.Joining.TheVariants.{Add, Multiply, Least, Greatest}
 use Rattle.cv_calcread.specs.declared.figure.Mark.{Mark}
 use Rattle.cv_calcread.specs.declared.figure.Mark.TheVariants.{Fine, Far, Null}
-use Rattle.cv_calcread.proofs.Evaluations.{evaluated-Num, evaluated-Sum, evaluated-Product, evaluated-Negate, evaluated-Invert, evaluated-Min, evaluated-Max, evaluated-Clamp}
+use Rattle.cv_calcread.proofs.Evaluations.{evaluated-Sum, evaluated-Product, evaluated-Negate, evaluated-Invert, evaluated-Min, evaluated-Max, evaluated-Clamp}
 use Rattle.cv_calcread.proofs.Judged.{divisors_are_judged}
-use Rattle.cv_calc_laws.proofs.Lists.{Every, none_some, some_same, false_true, and_both, from_bound}
+use Rattle.cv_calc_laws.proofs.Lists.{Every, none_some, false_true, and_both, from_bound}
 use Rattle.cv_calc_laws.proofs.UnitTypes.{plain_is}
 use Rattle.cv_calc_laws.proofs.Factors.{Shape, plain}
 use Rattle.cv_calc_laws.proofs.Defined.{HasValue, value-Product, value-Min, value-Max, value-Clamp}

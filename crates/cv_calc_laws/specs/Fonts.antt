@@ -1,6 +1,6 @@
 -- Units that are relative to the font of an element, and what calculations without them are alike in (CSS Values and Units 4,
 -- "Font-relative Lengths"; that contexts are compared is this project's own).
-use Rattle.std.specs.Prelude.{◌≡◌, ℕ, Bool, true, false, not, List, ◌&&◌, Ok, Some}
+use Rattle.std.specs.Prelude.{◌≡◌, ℕ, Bool, true, false, not, List, Ok, Some}
 use Rattle.std.specs.List.{list_all}
 use Rattle.cv_ratio.specs.Ratio.{Ratio}
 use Rattle.cv_spec_text.specs.declared.token.Token.{Token}
