@@ -16,7 +16,7 @@ use Rattle.cv_calc_laws.specs.Fonts.{is_other_unit, is_no_ident, holds_no_font_u
 use Rattle.cv_calc_laws.specs.Units.{units_step, all_units, passes_if, token_passes}
 use Rattle.cv_calc_laws.proofs.Folding.{StepsAgree, folds_alike, all-Num, all-Sum, all-Product, all-Negate, all-Invert, all-Min, all-Max, all-Clamp}
 use Rattle.cv_calc_laws.proofs.Lists.{false_true, both_are}
-use Rattle.cv_calc_laws.proofs.Written.{TakesTexts, text_fine}
+use Rattle.cv_calc_laws.proofs.Written.{TakesTexts, alone_fine, text_fine}
 
 -- ---- each unit passes the test that takes all
 
@@ -107,5 +107,7 @@ pub texts_are_free : TextsAreFree
 texts_are_free = record {
   canonical = canonical_free;
   simplified = λ root x c. canonical_free root (simp x c) (simp_canonical x c);
+  number = λ root v u h. alone_fine (token_passes (is_other_unit root)) is_canonical (takes_canonical root) v u h;
+  number_no_ident = λ v u. alone_fine is_no_ident any takes_any v u refl;
   no_ident = λ c. text_fine is_no_ident any takes_any c (holds_any c);
 }

@@ -83,7 +83,7 @@ module _ (fine : Token → Bool) (test : units.Unit → Bool) (takes : TakesText
   number_fine : (b : Bool) (v : Ratio) (u : units.Unit) → test u ≡ true → AreFine (number_tokens b v u)
   number_fine b v u h = either_fine (has_decimal v) (decimal_tokens v u) (bracketed b (quotient_tokens v u)) (decimal_fine v u h) (bracketed_fine b (quotient_tokens v u) (quotient_fine v u h))
 
-  alone_fine : (v : Ratio) (u : units.Unit) → test u ≡ true → AreFine (number_alone v u)
+  pub alone_fine : (v : Ratio) (u : units.Unit) → test u ≡ true → AreFine (number_alone v u)
   alone_fine v u h =
       either_fine (has_decimal v) (decimal_tokens v u) (call (codes "calc") (quotient_tokens v u)) (decimal_fine v u h) (call_fine (codes "calc") (quotient_tokens v u) (quotient_fine v u h))
 

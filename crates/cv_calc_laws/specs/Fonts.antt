@@ -12,10 +12,10 @@ use Rattle.cv_calc.specs.declared.calc.Calc.{Calc}
 use Rattle.cv_calc.specs.declared.calc.Calc.TheVariants.{Num}
 use Rattle.cv_calcread.specs.Answer.{answer}
 use Rattle.cv_calcread.specs.Reading.{read}
-use Rattle.cv_simplify.specs.Canonical.{holds_canonical}
+use Rattle.cv_simplify.specs.Canonical.{is_canonical, holds_canonical}
 use Rattle.cv_simplify.specs.Counted.{is_in_range}
 use Rattle.cv_simplify.specs.Simplified.{simp}
-use Rattle.cv_simplify.specs.Text.{calc_text}
+use Rattle.cv_simplify.specs.Text.{number_alone, calc_text}
 use Rattle.cv_calc_laws.specs.Units.{all_units, token_passes}
 
 -- the unit is relative to the font of the element itself; on the root, which the first argument tells, `rem` is one
@@ -61,8 +61,11 @@ abbrev pub is_no_ident : Token → Bool
 is_no_ident (Ident name) = false
 is_no_ident t = true
 
--- the text of a calculation in canonical units, as a simplified one is, holds no font unit, and no text holds an ident
+-- the text of a calculation in canonical units, as a simplified one is, and that of a number in one, holds no font unit; no text holds
+-- an ident
 pub record TextsAreFree : Type 0 where
   pub canonical : (root : Bool) (c : Calc) → holds_canonical c ≡ true → holds_no_font_unit root (calc_text c) ≡ true
   pub simplified : (root : Bool) (x : Context) (c : Calc) → holds_no_font_unit root (calc_text (simp x c)) ≡ true
+  pub number : (root : Bool) (v : Ratio) (u : units.Unit) → is_canonical u ≡ true → holds_no_font_unit root (number_alone v u) ≡ true
   pub no_ident : (c : Calc) → list_all is_no_ident (calc_text c) ≡ true
+  pub number_no_ident : (v : Ratio) (u : units.Unit) → list_all is_no_ident (number_alone v u) ≡ true
