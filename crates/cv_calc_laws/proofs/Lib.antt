@@ -6,6 +6,7 @@ pub mod Rows
 pub mod ProductRows
 pub mod Defined
 pub mod OneNumber
+pub mod FontUnits
 pub mod Folding
 pub mod Contexts
 pub mod ReadUnits

@@ -16,7 +16,7 @@ use Rattle.cv_simplify.specs.Canonical.{is_canonical, holds_canonical}
 use Rattle.cv_simplify.specs.Counted.{is_in_range}
 use Rattle.cv_simplify.specs.Simplified.{simp}
 use Rattle.cv_simplify.specs.Text.{number_alone, calc_text}
-use Rattle.cv_calc_laws.specs.Units.{all_units, token_passes}
+use Rattle.cv_calc_laws.specs.Units.{HoldsUnit, all_units, token_passes}
 
 -- the unit is relative to the font of the element itself; on the root, which the first argument tells, `rem` is one
 abbrev pub is_font_unit : Bool → units.Unit → Bool
@@ -36,6 +36,11 @@ has_no_font_unit root = all_units (is_other_unit root)
 
 abbrev pub holds_no_font_unit : Bool → List Token → Bool
 holds_no_font_unit root ts = list_all (token_passes (is_other_unit root)) ts
+
+-- the test of a list tells whether a token of it has a font unit
+pub record FontUnitsAreTold : Type 0 where
+  pub none : (root : Bool) (ts : List Token) → holds_no_font_unit root ts ≡ true → (u : units.Unit) → is_font_unit root u ≡ true → HoldsUnit ts u → ⊥
+  pub absent : (root : Bool) (ts : List Token) → ((u : units.Unit) → is_font_unit root u ≡ true → HoldsUnit ts u → ⊥) → holds_no_font_unit root ts ≡ true
 
 -- the contexts differ in what font units stand for, and in nothing else
 pub record DifferInFonts (root : Bool) (x y : Context) : Type 0 where

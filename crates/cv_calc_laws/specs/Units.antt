@@ -1,5 +1,5 @@
 -- Whether each unit of a calculation, or of a list of tokens, passes a test (this project's own).
-use Rattle.std.specs.Prelude.{Bool, true, ◌&&◌, Option, Some, None}
+use Rattle.std.specs.Prelude.{◌≡◌, Bool, true, ◌&&◌, List, [], ◌∷◌, Option, Some, None, ◌⊎◌}
 use Rattle.std.specs.List.{list_all}
 use Rattle.cv_spec_text.specs.declared.token.Token.{Token}
 use Rattle.cv_spec_text.specs.declared.token.Token.TheVariants.{Dimension}
@@ -13,6 +13,11 @@ use Rattle.cv_calc.specs.Names.{unit_with_name}
 abbrev pub token_unit : Token → Option units.Unit
 token_unit (Dimension n name) = unit_with_name name
 token_unit t = None
+
+-- a token of the list has the unit
+abbrev pub HoldsUnit : List Token → units.Unit → Type 0
+HoldsUnit [] u = ⊥
+HoldsUnit (t ∷ ts) u = (token_unit t ≡ Some u) ⊎ HoldsUnit ts u
 
 module _ (test : units.Unit → Bool) where
   abbrev pub units_step : Calc-F Bool → Bool

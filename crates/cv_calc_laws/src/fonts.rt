@@ -1,6 +1,12 @@
 //! Calculations without units that are relative to a font.
 
-ghost use Rattle.cv_calc_laws.specs.Fonts.{UnitsAreRead, SimplifiesAlike, TextsAreFree};
+ghost use Rattle.cv_calc_laws.specs.Fonts.{FontUnitsAreTold, UnitsAreRead, SimplifiesAlike, TextsAreFree};
+
+/// Whether a list holds a font unit is told by a test of each token: `2em` has one, `2px` none, and `2rem` has one on the root alone
+/// (CSS Values and Units 4, "Font-relative Lengths").
+pub fn font_units_are_told()
+    ensures { FontUnitsAreTold }
+{}
 
 /// What is read of a list without font units has none.
 pub fn units_are_read()
