@@ -190,3 +190,58 @@ fn forms_that_are_not_built(rt: HostRuntime) -> Result<(), Fail> {
     }
     Ok(())
 }
+
+static ORDINARY: [&str; 35] = [
+    "font-size",
+    "color",
+    "line-height",
+    "letter-spacing",
+    "text-indent",
+    "visibility",
+    "orphans",
+    "display",
+    "width",
+    "height",
+    "min-width",
+    "min-height",
+    "max-width",
+    "max-height",
+    "margin-top",
+    "margin-right",
+    "margin-bottom",
+    "margin-left",
+    "padding-top",
+    "padding-right",
+    "padding-bottom",
+    "padding-left",
+    "top",
+    "right",
+    "bottom",
+    "left",
+    "row-gap",
+    "column-gap",
+    "opacity",
+    "z-index",
+    "order",
+    "flex-grow",
+    "flex-shrink",
+    "background-color",
+    "outline-offset",
+];
+
+// Each ordinary property is one where it is shown and where it is declared.
+#[test]
+fn ordinary_properties_are_not_built(rt: HostRuntime) -> Result<(), Fail> {
+    let alloc = rt.alloc();
+    for name in &ORDINARY {
+        let shown = format!(in alloc; r#"{{"elements":[{{"parent":null}}],"show":["{name}"]}}"#)?;
+        let same = refuses(alloc, &COMPUTE, shown.as_bytes(), 9, "not built")?;
+        assert!(rt; same, "of {name}");
+        let declared = format!(in alloc;
+            r#"{{"elements":[{{"parent":null,"style":"{name}:0"}}]}}"#
+        )?;
+        let same = refuses(alloc, &COMPUTE, declared.as_bytes(), 9, "not built")?;
+        assert!(rt; same, "of {name}");
+    }
+    Ok(())
+}
