@@ -2,8 +2,24 @@
 #![tactic(auto)]
 
 #[cfg(test)]
+mod commands;
+#[cfg(test)]
+mod deep;
+#[cfg(test)]
+mod large;
+#[cfg(test)]
+mod limits;
+#[cfg(test)]
+mod long;
+#[cfg(test)]
 mod pairs;
 #[cfg(test)]
+mod refusals;
+#[cfg(test)]
+mod running;
+#[cfg(test)]
 mod runs;
+#[cfg(test)]
+mod streams;
 #[cfg(test)]
 mod texts;

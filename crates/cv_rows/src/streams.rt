@@ -1,0 +1,50 @@
+// Streams that fail in mid-stream.
+use crate::running::{COMPUTE, strings};
+use cv_io::{MemSink, MemSource, SureSink};
+use cv_run::{Status, run};
+use std::alloc::{AllocError, Global};
+use std::test::Fail;
+
+static DOCUMENT: &str = r#"{"elements":[{"parent":null,"style":"--a:  1px "}]}"#;
+
+// A run whose reads and writes of these numbers fail: the status, and what `out` and `err` took.
+fn failing(
+    alloc: Global,
+    reads: &[u64],
+    writes: &[u64],
+) -> Result<(Status, MemSink, SureSink), AllocError> {
+    let words = strings(alloc, &COMPUTE)?;
+    let document = DOCUMENT.as_bytes().to_vec(alloc)?;
+    let mut src = MemSource::new(document, 10, reads.to_vec(alloc)?);
+    let mut out = MemSink::new(alloc, 7, writes.to_vec(alloc)?);
+    let mut err = SureSink::new(alloc);
+    let status = run(alloc, &words, &mut src, &mut out, &mut err);
+    Ok((status, out, err))
+}
+
+#[test]
+fn a_read_fails(rt: HostRuntime) -> Result<(), Fail> {
+    let (status, out, err) = failing(rt.alloc(), &[1], &[])?;
+    assert_eq!(rt; status.code(), 3);
+    assert_eq!(rt; out.taken(), b"".as_slice());
+    assert_eq!(rt; err.taken(), b"cssvars: read fault\n".as_slice());
+    Ok(())
+}
+
+#[test]
+fn a_write_fails(rt: HostRuntime) -> Result<(), Fail> {
+    let (status, out, err) = failing(rt.alloc(), &[], &[1])?;
+    assert_eq!(rt; status.code(), 7);
+    assert_eq!(rt; out.taken(), b"0 --a =".as_slice());
+    assert_eq!(rt; err.taken(), b"cssvars: write fault\n".as_slice());
+    Ok(())
+}
+
+#[test]
+fn nothing_fails(rt: HostRuntime) -> Result<(), Fail> {
+    let (status, out, err) = failing(rt.alloc(), &[], &[])?;
+    assert!(rt; status == Status::Done);
+    assert_eq!(rt; out.taken(), b"0 --a = 1px\n".as_slice());
+    assert_eq!(rt; err.taken(), b"".as_slice());
+    Ok(())
+}
