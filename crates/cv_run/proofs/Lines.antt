@@ -31,11 +31,11 @@ IsCause key faults None = (cause : Cause) → ¬ Contains faults (key, cause)
 IsCause key faults (Some cause) = Contains faults (key, cause)
 
 cause_is : PropertiesAreFound → (key : Key) (faults : Faults) → IsCause key faults (cause_of key faults)
-cause_is found key [] cause held = omega (arith, held.1)
-cause_is found key ((other, why) ∷ faults) = by (same_key key other) refl
+cause_is found key [] = λ cause held. omega (arith, held.1)
+cause_is found key ((other, why) ∷ faults) = by (cause_is found key faults) (same_key key other) refl
   where
     later : (o : Option Cause) → same_key key other ≡ false → IsCause key faults o → IsCause key ((other, why) ∷ faults) o
-    later None not_so none cause held = elim (held-cons (other, why) faults (key, cause) held) [
+    later None not_so none = λ cause held. elim (held-cons (other, why) faults (key, cause) held) [
       | inl here ↦
           let same : key ≡ other = sym (ap (λ (x : Key × Cause). x.0) here) in
           let clash : true ≡ false = sym (subst (λ k. same_key key k ≡ true) same (key_same_itself key)) ∙ not_so in
@@ -44,10 +44,10 @@ cause_is found key ((other, why) ∷ faults) = by (same_key key other) refl
     ]
     later (Some cause) not_so held = held-later (other, why) faults (key, cause) held
 
-    by : (b : Bool) → same_key key other ≡ b → IsCause key ((other, why) ∷ faults) (cause_of key ((other, why) ∷ faults))
-    by true is =
+    by : IsCause key faults (cause_of key faults) → (b : Bool) → same_key key other ≡ b → IsCause key ((other, why) ∷ faults) (cause_of key ((other, why) ∷ faults))
+    by rest true is =
         rw is (subst (λ k. Contains ((other, why) ∷ faults) (k, why)) (sym (keys_same found key other is)) (held-here (other, why) faults))
-    by false is = rw is (later (cause_of key faults) is (cause_is found key faults))
+    by rest false is = rw is (later (cause_of key faults) is rest)
 
 -- each key has one fault at most
 one_fault : (key : Key) (faults : Faults) (one other : Cause) → IsOnce faults → Contains faults (key, one) → Contains faults (key, other) → one ≡ other
@@ -66,7 +66,7 @@ same_cause key faults (Some one) None once first second = absurd (second one fir
 same_cause key faults (Some one) (Some other) once first second = ap Some (one_fault key faults other one once second first)
 
 moved : (key : Key) (faults others : Faults) (o : Option Cause) → ((cause : Cause) → Contains others (key, cause) ↔ Contains faults (key, cause)) → IsCause key others o → IsCause key faults o
-moved key faults others None alike none cause held = none cause ((alike cause).1 held)
+moved key faults others None alike none = λ cause held. none cause ((alike cause).1 held)
 moved key faults others (Some cause) alike held = (alike cause).0 held
 
 causes_same : PropertiesAreFound → (one other : Computed) → TellsTheSame one other → IsOnce one.faults → (key : Key) → cause_of key other.faults ≡ cause_of key one.faults

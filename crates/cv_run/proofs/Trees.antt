@@ -2,7 +2,7 @@
 use Rattle.std.proofs.Common.{◌≡◌, ℕ, zero, suc, ◌+◌, ◌<◌, ◌≤◌, List, [], ◌∷◌, ◌++◌, length, Option, Some, None, ◌⊎◌, inl, inr, refl, sym, ◌∙◌, ap, subst, arith, length-append}
 use Rattle.std.specs.Prelude.{Contains, option_map}
 use Rattle.std.specs.List.{AllZip, slice_get}
-use Rattle.std.proofs.lemmas.Option.{slice_get_cases, slice_get_within}
+use Rattle.std.proofs.lemmas.Option.{slice_get_within}
 use Rattle.cv_doc.specs.declared.elements.Elem.{Elem}
 use Rattle.cv_doc.specs.Kept.{IsParentOf, IsTree}
 use Rattle.cv_doc.specs.Reading.{Shape}
@@ -26,11 +26,9 @@ use Rattle.cv_run.proofs.Lines.{IsWrittenAlike, texts_same, written_alike}
 
 -- an item that stands there
 item_at : {X : Type 0} (xs : List X) (i : ℕ) → i < length xs → (x : X) × (slice_get xs i ≡ Some x)
-item_at xs i below = by (slice_get_cases xs i).1
-  where
-    by : ((x : _) × (i < length xs) × (slice_get xs i ≡ Some x) × _) ⊎ ((length xs ≤ i) × _) → (x : _) × (slice_get xs i ≡ Some x)
-    by (inl found) = (found.0, found.2)
-    by (inr past) = absurd (omega (arith, past.0, below))
+item_at [] i below = absurd (omega (arith, below))
+item_at (x ∷ xs) zero below = (x, refl)
+item_at (x ∷ xs) (suc i) below = item_at xs i (omega (arith, below))
 
 -- pair by pair, by their places
 zipped : {X : Type 0} (R : X → X → Type 0) (xs ys : List X) → length ys ≡ length xs → ((i : ℕ) (x y : X) → slice_get xs i ≡ Some x → slice_get ys i ≡ Some y → R x y) → AllZip R xs ys
