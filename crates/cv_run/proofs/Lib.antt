@@ -3,6 +3,7 @@ pub mod Growing
 pub mod Keys
 pub mod Lines
 pub mod Naming
+pub mod Reporting
 pub mod Shown
 pub mod Stepping
 pub mod Taken

@@ -3,7 +3,7 @@ use Rattle.std.specs.Prelude.{ℕ, ◌≡◌, ◌≤◌, length, Bool, true, fal
 use Rattle.cv_doc.specs.Reading.{Shape}
 use Rattle.cv_report.specs.Report.{report_text}
 use Rattle.cv_run.specs.Building.{is_unbuilt}
-use Rattle.cv_run.specs.Fates.{Fate, computed, fate_of, malformed, too_large, unbuilt}
+use Rattle.cv_run.specs.Fates.{Fate, IsTooLarge, computed, fate_of, malformed, too_large, unbuilt}
 use Rattle.cv_run.specs.Names.{shown_of}
 use Rattle.cv_run.specs.Single.{IsOnlyReport}
 use Rattle.cv_run.specs.Styles.{declarations_of, notes_of}
@@ -41,6 +41,11 @@ IsRefusal fate (Malformed why) = fate ≡ malformed why
 IsRefusal fate Unbuilt = fate ≡ unbuilt
 IsRefusal fate NoMemory = Unit {0}
 IsRefusal fate _ = ⊥
+
+-- a part that a status calls too large is so
+abbrev pub IsOversized : Option (List ℕ) → Status → Type 0
+IsOversized given (TooLarge what) = IfSome given (λ bytes. IsTooLarge bytes what)
+IsOversized given _ = Unit {0}
 
 -- a status that ends a run before it writes
 abbrev pub IsStopped : Option (List ℕ) → Type 0 → Status → Type 0
