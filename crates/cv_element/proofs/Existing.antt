@@ -204,12 +204,12 @@ module _ (decls : Declarations) (parent : Option Values) (most : ℕ) (found : P
     by_cause : (k : Key) (keys : List Key) → TellsOf keys → ¬ Contains keys k → (has : HasOneCause element v k) (o : Option Reported) → reported_of has.cause ≡ o → TellsOf (k ∷ keys)
     by_cause k keys t unheld has None is =
         stays k keys t (λ cause is_invalid. absurd (
-          let clash : None ≡ Some cause = sym is ∙ ap reported_of (sym (has.only (cause_of cause) is_invalid)) ∙ reported_of-cause_of cause in cc))
+        let clash : None ≡ Some cause = sym is ∙ ap reported_of (sym (has.only (cause_of cause) is_invalid)) ∙ reported_of-cause_of cause in cc))
     by_cause k keys t unheld has (Some r) is =
         grows k keys t unheld r (subst (IsInvalid element v k) (sym (cause_from has.cause r is)) has.holds)
         (λ cause is_invalid.
-          let both : Some cause ≡ Some r = sym (reported_of-cause_of cause) ∙ ap reported_of (has.only (cause_of cause) is_invalid) ∙ is in
-          cc)
+        let both : Some cause ≡ Some r = sym (reported_of-cause_of cause) ∙ ap reported_of (has.only (cause_of cause) is_invalid) ∙ is in
+        cc)
 
     tells : (keys : List Key) → TellsOf keys
     tells [] = none_told
@@ -231,8 +231,8 @@ module _ (decls : Declarations) (parent : Option Values) (most : ℕ) (found : P
       told_all key cause = (
         (λ held. subst (λ w. IsInvalid element w key (cause_of cause)) (sym (values_are keys listed)) ((t.told key cause).0 held).1),
         (λ is.
-          let before : Invalid key cause = subst (λ w. IsInvalid element w key (cause_of cause)) (values_are keys listed) is in
-          (t.told key cause).1 (listed key (declared key (cause_of cause) before), before)),
+            let before : Invalid key cause = subst (λ w. IsInvalid element w key (cause_of cause)) (values_are keys listed) is in
+            (t.told key cause).1 (listed key (declared key (cause_of cause) before), before)),
       )
 
       pub existing : Computed

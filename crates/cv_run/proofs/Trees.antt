@@ -73,8 +73,7 @@ module _ (single : ElementsAreSingle) (elements : List Elem) (limit : ℕ) (tree
         let e = item_at elements at (omega (arith, below, is_parent)) in
         let one = item_at all at (omega (arith, below, is_parent, is.count)) in
         let other = item_at others at (omega (arith, below, is_parent, is_other.count)) in
-        let alike = before at is_parent e.0 one.0 other.0 e.1 one.1 other.1 in
-        (
+        let alike = before at is_parent e.0 one.0 other.0 e.1 one.1 other.1 in (
           ap (option_map (λ computed. computed.values)) other.1 ∙ ap Some alike.same.values ∙ sym (ap (option_map (λ computed. computed.values)) one.1),
           subst ParentHoldsNoKeyword (sym (ap (option_map (λ computed. computed.values)) one.1)) alike.plain,
         )

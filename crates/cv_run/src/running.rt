@@ -11,8 +11,8 @@ ghost use Rattle.cv_run.specs.Telling.{EndsEarly, IsOversized, IsStopped, TellsO
 
 use crate::report::{Report, report_of};
 use crate::status::Status;
-use cv_io::{ReadErr, Sink, SinkErr, Source, read_all};
 use cv_doc::{BadDoc, What};
+use cv_io::{ReadErr, Sink, SinkErr, Source, read_all};
 use cv_report::report;
 use cv_words::{WordsErr, read_words};
 use std::alloc::Global;
