@@ -8,6 +8,8 @@ mod laws;
 mod names;
 mod refusal;
 mod settling;
+#[cfg(test)]
+mod tests;
 mod valuation;
 
 pub use laws::elements_have_one_result;
