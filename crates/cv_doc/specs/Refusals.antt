@@ -7,6 +7,7 @@ use Rattle.cv_doc.specs.declared.refusal.DocErr.TheVariants.{Bad, TooMany, Memor
 use Rattle.cv_doc.specs.declared.refusal.BadDoc.{BadDoc}
 use Rattle.cv_doc.specs.declared.refusal.BadDoc.TheVariants.{Field}
 use Rattle.cv_doc.specs.declared.refusal.What.{What}
+use Rattle.cv_doc.specs.declared.refusal.What.TheVariants.{Bytes, Elements, Show, Commands, Names}
 
 -- the document is malformed, or a part of it is too large
 pub data Refusal : Type 0 where
@@ -16,6 +17,20 @@ pub data Refusal : Type 0 where
 -- the refusal of the member with this path
 abbrev pub field : List ℕ → Refusal
 field path = malformed (Field (chars path))
+
+-- the parts that are counted while a document is read
+abbrev pub IsCounted : What → Type 0
+IsCounted Bytes = ⊥
+IsCounted Elements = Unit {0}
+IsCounted Show = Unit {0}
+IsCounted Commands = Unit {0}
+IsCounted Names = ⊥
+
+-- what is refused for its size is a part that is counted
+abbrev pub RefusesCounted : {T : Type 0} → Result T Refusal → Type 0
+RefusesCounted (Ok x) = Unit {0}
+RefusesCounted (Err (malformed why)) = Unit {0}
+RefusesCounted (Err (too_large what)) = IsCounted what
 
 -- want of memory is no refusal
 abbrev pub refusal_of : DocErr → Option Refusal

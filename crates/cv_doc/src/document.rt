@@ -3,7 +3,7 @@ ghost use Rattle.std.specs.Prelude.{IfOk};
 ghost use Rattle.serde_json.specs.View.{view};
 ghost use Rattle.cv_doc.specs.Kept.{IsSound};
 ghost use Rattle.cv_doc.specs.Reading.{document_in, document_of, members_in, shape_of};
-ghost use Rattle.cv_doc.specs.Refusals.{Answers};
+ghost use Rattle.cv_doc.specs.Refusals.{Answers, RefusesCounted};
 
 use crate::command::Command;
 use crate::commands::commands;
@@ -41,8 +41,10 @@ impl Document {
     /// ```text
     /// {"elements": [{"parent": null, "style": "--a: 1px"}, {"parent": 0}], "show": ["--a"]}
     /// ```
+    #[tactic(auto, using(crate::proofs::Counted::document_counted))]
     pub fn of_bytes(alloc: Global, bytes: &[u8]) -> Result<Document, DocErr>
         ensures exact { Answers shape_of (document_of bytes.now) result }
+        ensures counted { RefusesCounted (document_of bytes.now) }
         ensures sound { IfOk result (λ document. IsSound (shape_of document)) }
     {
         match read_json(alloc, bytes)? {

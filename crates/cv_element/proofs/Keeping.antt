@@ -30,7 +30,7 @@ told_by : (b : Bool) (name : List ℕ) → b ≡ is_some (cond b (Some name) Non
 told_by true name = refl
 told_by false name = refl
 
-is_keyword-word : (list : List Token) → is_keyword list ≡ is_some (keyword_in list)
+pub is_keyword-word : (list : List Token) → is_keyword list ≡ is_some (keyword_in list)
 is_keyword-word [] = refl
 is_keyword-word (t ∷ second ∷ rest) = two_no_keyword t second rest
 is_keyword-word (t ∷ []) = by (ident_or_not t)
@@ -39,7 +39,7 @@ is_keyword-word (t ∷ []) = by (ident_or_not t)
     by (inl (name, is)) = subst (λ x. is_keyword (x ∷ []) ≡ is_some (keyword_in (x ∷ []))) (sym is) (told_by (is_css_wide_keyword name) name)
     by (inr none) = none.alone ∙ sym (ap is_some none.word_is)
 
-lone_none : (list : List Token) → is_keyword list ≡ false → lone_keyword element_words list ≡ None
+pub lone_none : (list : List Token) → is_keyword list ≡ false → lone_keyword element_words list ≡ None
 lone_none list none =
     elim (word_cases list) [
       | inl none_there ↦ none_there.1

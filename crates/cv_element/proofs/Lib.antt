@@ -12,3 +12,7 @@ pub mod Naming
 pub mod Whole
 pub mod Result
 pub mod Sorting
+pub mod Inherited
+pub mod Ranking
+pub mod Existing
+pub mod Single

@@ -3,3 +3,4 @@ pub mod Names
 pub mod Answers
 pub mod Settling
 pub mod FaultNames
+pub mod Single

@@ -4,10 +4,14 @@
 mod answers;
 mod faults;
 mod graph;
+mod laws;
 mod names;
 mod refusal;
 mod settling;
+#[cfg(test)]
+mod tests;
 mod valuation;
 
+pub use laws::elements_have_one_result;
 pub use refusal::ElemErr;
 pub use valuation::{Place, element};

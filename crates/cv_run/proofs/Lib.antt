@@ -1,5 +1,11 @@
 pub mod Given
+pub mod Growing
+pub mod Keys
+pub mod Lines
 pub mod Naming
+pub mod Reporting
+pub mod Shown
 pub mod Stepping
 pub mod Taken
+pub mod Trees
 pub mod Walked

@@ -1,20 +1,21 @@
 -- Names and keys that are added one after another.
-use Rattle.std.proofs.Common.{◌≡◌, ℕ, ◌+◌, ◌<◌, List, [], ◌∷◌, ◌++◌, length, take, get_or, sym, ap, ◌∙◌, refl}
+use Rattle.std.proofs.Common.{◌≡◌, ℕ, ◌+◌, ◌<◌, List, [], ◌∷◌, ◌++◌, length, take, get_or, sym, ap, ◌∙◌, refl, true}
 use Rattle.std.specs.Prelude.{Option, Some, bytes_eq, filter}
 use Rattle.std.specs.List.{fold, filter_map, slice_get}
 use Rattle.std.specs.Map.{keys_of}
 use Rattle.std.proofs.lemmas.List.{take_more, map-append}
 use Rattle.std.proofs.lemmas.List.Sums.{fold-append}
-use Rattle.std.proofs.lemmas.List.Elements.{filter-append, filter_map-append}
+use Rattle.std.proofs.lemmas.List.Elements.{All-head, All-tail, filter-append, filter_map-append}
 use Rattle.std.proofs.lemmas.Option.{get_or_from_slice_get, slice_get_within}
 use Rattle.indexmap.specs.IndexSet.{insert_all, insert_key}
 use Rattle.cv_spec_text.specs.Keywords.{is_custom}
 use Rattle.cv_doc.specs.declared.command.Command.{Command}
+use Rattle.cv_doc.specs.Members.{is_name}
 use Rattle.cv_props.specs.declared.decls.Decl.{Decl}
 use Rattle.cv_props.specs.declared.key.Key.{Key}
 use Rattle.cv_props.specs.Keys.{key_named, same_key}
 use Rattle.cv_props.specs.Winners.{Declarations}
-use Rattle.cv_run.specs.Names.{keys_in, name_of_command, name_of_key, named_keys, names_counted, with_names}
+use Rattle.cv_run.specs.Names.{AreNames, keys_in, name_of_command, name_of_key, named_keys, names_counted, with_names}
 
 -- one more item of a list
 pub take_next : {X : Type 0} (xs : List X) (i : ℕ) (x : X) → slice_get xs i ≡ Some x → take (i + 1) xs ≡ take i xs ++ x ∷ []
@@ -38,6 +39,12 @@ seen_next keys ds all = sym (fold-append (insert_key same_key) keys (keys_of ds)
 -- the properties of one more name
 pub named_next : (name : List ℕ) (names : List (List ℕ)) → named_keys (name ∷ names) ≡ named_keys (name ∷ []) ++ named_keys names
 named_next name names = filter_map-append key_named (name ∷ []) names
+
+pub names_head : (name : List ℕ) (names : List (List ℕ)) → AreNames (name ∷ names) → is_name name ≡ true
+names_head name names all = All-head (λ (x : List ℕ). is_name x ≡ true) name names all
+
+pub names_tail : (name : List ℕ) (names : List (List ℕ)) → AreNames (name ∷ names) → AreNames names
+names_tail name names all = All-tail (λ (x : List ℕ). is_name x ≡ true) name names all
 
 -- names behind others
 pub with_names_append : (names some more : List (List ℕ)) → with_names names (some ++ more) ≡ with_names (with_names names some) more

@@ -17,29 +17,7 @@ use Rattle.cv_run.specs.Styles.{declarations_of}
 use Rattle.cv_run.specs.Tree.{AreComputed, IsOfElement, parent_values}
 use Rattle.cv_run.specs.Walking.{IsNextOf, IsOneMore, IsReady, Stepped}
 use Rattle.cv_run.specs.declared.tree.Computing.{Computing}
-
--- ---- lists
-
-get_front : {X : Type 0} (xs ys : List X) (i : ℕ) → i < length xs → slice_get (xs ++ ys) i ≡ slice_get xs i
-get_front [] ys i lt = absurd (omega (arith, lt))
-get_front (x ∷ xs) ys zero lt = refl
-get_front (x ∷ xs) ys (suc i) lt = get_front xs ys i (omega (arith, lt))
-
-get_last : {X : Type 0} (xs : List X) (x : X) (ys : List X) → slice_get (xs ++ x ∷ ys) (length xs) ≡ Some x
-get_last [] x ys = refl
-get_last (z ∷ xs) x ys = get_last xs x ys
-
--- an item of a list with one more is an item of the list, or the last
-front_or_last : {X : Type 0} (xs : List X) (x : X) (i : ℕ) (y : X) → slice_get (xs ++ x ∷ []) i ≡ Some y
-    → ((i < length xs) × (slice_get xs i ≡ Some y)) ⊎ ((i ≡ length xs) × (y ≡ x))
-front_or_last [] x zero y is = inr (refl, cc)
-front_or_last [] x (suc i) y is = cc
-front_or_last (z ∷ xs) x zero y is = inl (omega arith, is)
-front_or_last (z ∷ xs) x (suc i) y is = by (front_or_last xs x i y is)
-  where
-    by : ((i < length xs) × (slice_get xs i ≡ Some y)) ⊎ ((i ≡ length xs) × (y ≡ x)) → ((suc i < suc (length xs)) × (slice_get xs i ≡ Some y)) ⊎ ((suc i ≡ suc (length xs)) × (y ≡ x))
-    by (inl front) = inl (omega (arith, front.0), front.1)
-    by (inr last) = inr (ap suc last.0, last.1)
+use Rattle.cv_run.proofs.Growing.{AreFirst, first_next, get_last}
 
 -- ---- each element is ready
 
@@ -123,29 +101,7 @@ record IsDone (most : ℕ) (whole : List Elem) (i : ℕ) (s : Computing) : Type 
   declarations : s.declarations.items ≡ map declarations_of whole
   limit : s.limit ≡ most
   count : length s.all.items ≡ i
-  each : (j : ℕ) (element : Elem) (computed : Computed) → slice_get whole j ≡ Some element → slice_get s.all.items j ≡ Some computed → IsOfElement most s.all.items element computed
-
-parent_stays : (all : List Computed) (c : Computed) (parent : Option ℕ) → IfSome parent (λ at. at < length all) → parent_values (all ++ c ∷ []) parent ≡ parent_values all parent
-parent_stays all c None lt = refl
-parent_stays all c (Some at) lt = ap (option_map (λ computed. computed.values)) (get_front all (c ∷ []) at lt)
-
-element_at : (elements : List Elem) (i : ℕ) (e : Elem) → slice_get elements i ≡ Some e → slice_index_or elements i e ≡ e
-element_at [] i e is = cc
-element_at (x ∷ xs) zero e is = cc
-element_at (x ∷ xs) (suc i) e is = element_at xs i e is
-
-parent_at : (elements : List Elem) (i : ℕ) (e : Elem) → IsTree elements → slice_get elements i ≡ Some e → IsParentOf i e.parent
-parent_at elements i e tree is = subst (λ x. IsParentOf i x.parent) (element_at elements i e is) (tree i e (slice_get_within elements i e is))
-
-earlier_still : (i n : ℕ) (parent : Option ℕ) → i ≤ n → IsParentOf i parent → IfSome parent (λ at. at < n)
-earlier_still i n None le is = tt
-earlier_still i n (Some at) le is = omega (arith, le, is)
-
--- what is computed of an element stays so when one more is computed
-of_element : (limit : ℕ) (all : List Computed) (c : Computed) (element : Elem) (computed : Computed) → IfSome element.parent (λ at. at < length all)
-    → IsOfElement limit all element computed → IsOfElement limit (all ++ c ∷ []) element computed
-of_element limit all c element computed lt is =
-    subst (λ (values : Option Values). IsComputed (declarations_of element) values limit computed) (sym (parent_stays all c element.parent lt)) is
+  each : AreFirst most whole s.all.items
 
 declared_at : (whole : List Elem) (i : ℕ) (e : Elem) (all ds : List Declarations) (d : Declarations) → all ≡ map declarations_of whole → slice_get whole i ≡ Some e → slice_get all i ≡ Some d → d ≡ declarations_of e
 declared_at whole i e all ds d same is declared =
@@ -158,7 +114,7 @@ done_next limit whole i e s t tree is d m = record {
   declarations = m.declarations ∙ d.declarations;
   limit = m.limit ∙ d.limit;
   count = omega (arith, ap length m.all, length-append s.all.items (m.computed ∷ []), d.count);
-  each = λ j element computed at is_at. subst (λ all. IsOfElement limit all element computed) (sym m.all) (by j element computed at (front_or_last s.all.items m.computed j computed (ap (λ all. slice_get all j) (sym m.all) ∙ is_at)));
+  each = subst (AreFirst limit whole) (sym m.all) (first_next limit whole s.all.items e m.computed tree (ap (slice_get whole) d.count ∙ is) fresh d.each);
 }
   where
     fresh : IsOfElement limit s.all.items e m.computed
@@ -166,23 +122,12 @@ done_next limit whole i e s t tree is d m = record {
         let same : m.next.declarations ≡ declarations_of e = declared_at whole i e s.declarations.items [] m.next.declarations d.declarations is m.next.declared in
         subst (λ (l : ℕ). IsComputed (declarations_of e) (parent_values s.all.items e.parent) l m.computed) d.limit
         (subst (λ (ds : Declarations). IsComputed ds (parent_values s.all.items e.parent) s.limit m.computed) same m.next.next)
-    by : (j : ℕ) (element : Elem) (computed : Computed) → slice_get whole j ≡ Some element
-        → ((j < length s.all.items) × (slice_get s.all.items j ≡ Some computed)) ⊎ ((j ≡ length s.all.items) × (computed ≡ m.computed)) → IsOfElement limit (s.all.items ++ m.computed ∷ []) element computed
-    by j element computed at (inl front) =
-        of_element limit s.all.items m.computed element computed (earlier_still j (length s.all.items) element.parent (omega (arith, front.0)) (parent_at whole j element tree at)) (d.each j element computed at front.1)
-    by j element computed at (inr last) =
-        let here : j ≡ i = last.0 ∙ d.count in
-        let both : Some element ≡ Some e = sym at ∙ ap (slice_get whole) here ∙ is in
-        let same : e ≡ element = cc in
-        let named : m.computed ≡ computed = sym last.1 in
-        of_element limit s.all.items m.computed element computed (earlier_still j (length s.all.items) element.parent (omega (arith, last.0)) (parent_at whole j element tree at))
-        (subst (λ c. IsOfElement limit s.all.items element c) named (subst (λ (x : Elem). IsOfElement limit s.all.items x m.computed) same fresh))
 
 walked : (limit : ℕ) (whole done rest : List Elem) (s last : Computing) → IsTree whole → whole ≡ done ++ rest → IsDone limit whole (length done) s
     → Reaches Stepped (length done) rest s (Ok tt) last → AreComputed whole limit last.all.items
 walked limit whole done [] s last tree same d reached = record {
   count = ap (λ x. length x.all.items) reached.1 ∙ d.count ∙ ap length (sym (append-nil done)) ∙ ap length (sym same);
-  each = subst (λ x. (j : ℕ) (element : Elem) (computed : Computed) → slice_get whole j ≡ Some element → slice_get x.all.items j ≡ Some computed → IsOfElement limit x.all.items element computed) (sym reached.1) d.each;
+  each = subst (λ x. AreFirst limit whole x.all.items) (sym reached.1) d.each;
 }
 walked limit whole done (e ∷ es) s last tree same d (inl stopped) = let no = stopped.1 in cc
 walked limit whole done (e ∷ es) s last tree same d (inr went) =

@@ -1,5 +1,5 @@
 -- What becomes of an input: it is refused, isn't built yet, or is computed.
-use Rattle.std.specs.Prelude.{ℕ, nat_lt, List, length, Result, Ok, Err, if◌then◌else◌}
+use Rattle.std.specs.Prelude.{ℕ, ◌≡◌, ◌<◌, nat_lt, List, length, Result, Ok, Err, if◌then◌else◌}
 use Rattle.cv_doc.specs.declared.refusal.BadDoc.{BadDoc}
 use Rattle.cv_doc.specs.declared.refusal.What.{What}
 use Rattle.cv_doc.specs.declared.refusal.What.TheVariants.{Bytes, Names}
@@ -37,3 +37,9 @@ fate_of_reading (Err (refusal.too_large what)) = too_large what
 -- what becomes of the bytes that a source gave
 unfoldable pub fate_of : List ℕ → Fate
 fate_of given = if nat_lt most_bytes (length given) then too_large Bytes else fate_of_reading (document_of given)
+
+-- The part is too large: there are more bytes than there may be, or more names, or the document is refused for the part.
+abbrev pub IsTooLarge : List ℕ → What → Type 0
+IsTooLarge given Bytes = most_bytes < length given
+IsTooLarge given Names = (document : Shape) × (document_of given ≡ Ok document) × (most_names < counted document)
+IsTooLarge given what = document_of given ≡ Err (refusal.too_large what)

@@ -2,6 +2,7 @@ pub mod Building
 pub mod Fates
 pub mod Names
 pub mod Outcome
+pub mod Single
 pub mod StatusLines
 pub mod Styles
 pub mod Telling

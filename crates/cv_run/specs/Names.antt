@@ -1,11 +1,12 @@
 -- The properties that a document shows, and the names that it counts.
-use Rattle.std.specs.Prelude.{ℕ, Bool, true, false, List, [], ◌∷◌, ◌++◌, bytes_eq, filter, length, map, Option, Some, None}
+use Rattle.std.specs.Prelude.{ℕ, ◌≡◌, All, Bool, true, false, List, [], ◌∷◌, ◌++◌, bytes_eq, filter, length, map, IfSome, Option, Some, None}
 use Rattle.std.specs.List.{flat_map, filter_map, list_any}
 use Rattle.std.specs.Map.{keys_of}
 use Rattle.indexmap.specs.IndexSet.{insert_all}
 use Rattle.cv_spec_text.specs.Keywords.{is_custom}
 use Rattle.cv_doc.specs.declared.command.Command.{Command}
 use Rattle.cv_doc.specs.declared.command.Command.TheVariants as command
+use Rattle.cv_doc.specs.Members.{is_name}
 use Rattle.cv_doc.specs.Reading.{Shape}
 use Rattle.cv_props.specs.declared.key.Key.{Key}
 use Rattle.cv_props.specs.declared.key.Key.TheVariants.{Custom, Table}
@@ -24,6 +25,10 @@ declared_keys document = keys_in (map declarations_of document.elements)
 -- the keys, each once, in the order in which they are first seen
 abbrev pub first_seen : List Key → List Key
 first_seen keys = insert_all same_key [] keys
+
+-- each is the name of a property
+abbrev pub AreNames : List (List ℕ) → Type 0
+AreNames names = All (λ name. is_name name ≡ true) names
 
 -- the properties of these names
 abbrev pub named_keys : List (List ℕ) → List Key

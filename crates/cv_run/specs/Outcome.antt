@@ -7,7 +7,7 @@ use Rattle.cv_doc.specs.declared.refusal.What.TheVariants.{Bytes, Elements, Show
 use Rattle.cv_words.specs.Words.{HasWords, IsRefused}
 use Rattle.cv_words.specs.declared.words.Words.{Words}
 use Rattle.cv_run.specs.Fates.{Fate, computed, fate_of, malformed, too_large, unbuilt}
-use Rattle.cv_run.specs.Tree.{IsReport}
+use Rattle.cv_run.specs.Single.{IsOnlyReport}
 use Rattle.cv_run.specs.declared.status.Status.{Status}
 use Rattle.cv_run.specs.declared.status.Status.TheVariants.{Done, Usage, ReadFault, TooLarge, Malformed, Unbuilt, WriteFault, NoMemory}
 
@@ -15,13 +15,13 @@ use Rattle.cv_run.specs.declared.status.Status.TheVariants.{Done, Usage, ReadFau
 abbrev pub AreRead : List (List ℕ) → Type 0
 AreRead words = (read : Words) × HasWords words read
 
--- the text of the report of an input, under the limit of the words
+-- the text is the one report of an input, under the limit of the words
 pub record IsText (words : List (List ℕ)) (given text : List ℕ) : Type 0 where
   pub read : Words
   pub has_words : HasWords words read
   pub document : Shape
   pub document_given : fate_of given ≡ computed document
-  pub report : IsReport document read.limit text
+  pub report : IsOnlyReport document read.limit text
 
 -- the sink took the report and nothing else
 abbrev pub HasWritten : List (List ℕ) → List ℕ → Option (List ℕ) → Option (List ℕ) → Type 0

@@ -3,10 +3,10 @@ use Rattle.std.specs.Prelude.{ℕ, ◌≡◌, ◌≤◌, length, Bool, true, fal
 use Rattle.cv_doc.specs.Reading.{Shape}
 use Rattle.cv_report.specs.Report.{report_text}
 use Rattle.cv_run.specs.Building.{is_unbuilt}
-use Rattle.cv_run.specs.Fates.{Fate, computed, fate_of, malformed, too_large, unbuilt}
+use Rattle.cv_run.specs.Fates.{Fate, IsTooLarge, computed, fate_of, malformed, too_large, unbuilt}
 use Rattle.cv_run.specs.Names.{shown_of}
+use Rattle.cv_run.specs.Single.{IsOnlyReport}
 use Rattle.cv_run.specs.Styles.{declarations_of, notes_of}
-use Rattle.cv_run.specs.Tree.{AreComputed}
 use Rattle.cv_run.specs.declared.contents.Contents.{Contents}
 use Rattle.cv_run.specs.declared.report.Report.{Report}
 use Rattle.cv_run.specs.declared.status.Status.{Status}
@@ -23,14 +23,16 @@ abbrev pub MayHaveContents : Shape → Option Contents → Type 0
 MayHaveContents document None = is_unbuilt document ≡ true
 MayHaveContents document (Some contents) = HasContents document contents
 
+-- the text of a report
+abbrev pub text_of : Report → List ℕ
+text_of report = report_text report.notes.items report.shown.items report.all.items
+
 -- the report tells of a document that is computed
 pub record TellsOf (fate : Fate) (limit : ℕ) (report : Report) : Type 0 where
   pub document : Shape
   pub document_computed : fate ≡ computed document
   pub few : length report.all.items ≤ 16384
-  pub all : AreComputed document.elements limit report.all.items
-  pub notes : report.notes.items ≡ notes_of document
-  pub shown : report.shown.items ≡ shown_of document
+  pub only : IsOnlyReport document limit (text_of report)
 
 -- a status that is a refusal of the input; want of memory is free
 abbrev pub IsRefusal : Fate → Status → Type 0
@@ -40,14 +42,15 @@ IsRefusal fate Unbuilt = fate ≡ unbuilt
 IsRefusal fate NoMemory = Unit {0}
 IsRefusal fate _ = ⊥
 
+-- a part that a status calls too large is so
+abbrev pub IsOversized : Option (List ℕ) → Status → Type 0
+IsOversized given (TooLarge what) = IfSome given (λ bytes. IsTooLarge bytes what)
+IsOversized given _ = Unit {0}
+
 -- a status that ends a run before it writes
 abbrev pub IsStopped : Option (List ℕ) → Type 0 → Status → Type 0
 IsStopped given source_failed ReadFault = source_failed
 IsStopped given source_failed status = IfSome given (λ bytes. IsRefusal (fate_of bytes) status)
-
--- the text of a report
-abbrev pub text_of : Report → List ℕ
-text_of report = report_text report.notes.items report.shown.items report.all.items
 
 -- the statuses that end a run behind its words and before it writes
 abbrev pub EndsEarly : Status → Type 0

@@ -1,7 +1,7 @@
 // What a document says of its elements.
 ghost use Rattle.std.specs.Prelude.{◌≡◌, ◌≤◌, IfOk, IfSome, length, option_map};
 ghost use Rattle.cv_doc.specs.Reading.{shape_of};
-ghost use Rattle.cv_run.specs.Names.{keys_in, keys_shown, named_keys, show_ordinary};
+ghost use Rattle.cv_run.specs.Names.{AreNames, keys_in, keys_shown, named_keys, show_ordinary};
 ghost use Rattle.cv_run.specs.Telling.{MayHaveContents};
 
 use crate::names::{are_ordinary, count_names, first_seen, named_keys};
@@ -22,7 +22,8 @@ pub struct Contents {
 
 /// What a document says, or `None` where it has a form that isn't built yet.
 pub fn contents_of(alloc: Global, document: &Document) -> Result<Option<Contents>, AllocError>
-    requires { length document.now.elements.items ≤ 16384 }
+    requires few { length document.now.elements.items ≤ 16384 }
+    requires names { IfSome (option_map (λ names. names.items) document.now.show) AreNames }
     ensures { IfOk result (λ contents. MayHaveContents (shape_of document.now) contents) }
 {
     let sheet = tokens_in(alloc, &document.sheet)?;
@@ -51,6 +52,7 @@ fn shown_keys(
     show: &Option<Vec<Name>>,
     declarations: &[Decls],
 ) -> Result<Vec<Key>, AllocError>
+    requires { IfSome (option_map (λ names. names.items) show.now) AreNames }
     ensures { IfOk result (λ keys. keys.items ≡ keys_shown (option_map (λ names. names.items) show.now) (keys_in declarations.now)) }
 {
     match show {

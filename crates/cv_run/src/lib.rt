@@ -2,6 +2,7 @@
 #![tactic(auto)]
 
 mod contents;
+mod laws;
 mod names;
 mod report;
 mod running;
@@ -13,5 +14,6 @@ mod tests;
 mod tree;
 
 pub use cv_doc::{BadDoc, What};
+pub use laws::{documents_have_one_report, shown_names_are_keys};
 pub use running::run;
 pub use status::Status;

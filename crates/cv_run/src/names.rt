@@ -1,13 +1,15 @@
 // The properties that a document shows, and the names that it counts.
-ghost use Rattle.std.specs.Prelude.{◌≡◌, ◌++◌, ◌∷◌, [], IfOk, OnOk, bytes_eq, filter, length, option_map};
+ghost use Rattle.std.specs.Prelude.{◌≡◌, ◌++◌, ◌∷◌, [], IfOk, OnOk, bytes_eq, filter, length, option_map, true};
 ghost use Rattle.std.specs.List.{filter_map, list_any};
 ghost use Rattle.std.specs.Map.{keys_of};
 ghost use Rattle.std.specs.Option.{option_copied};
 ghost use Rattle.indexmap.specs.IndexSet.{insert_all, insert_key};
 ghost use Rattle.cv_spec_text.specs.Keywords.{is_custom};
+ghost use Rattle.cv_doc.specs.Members.{is_name};
 ghost use Rattle.cv_props.specs.Keys.{same_key};
-ghost use Rattle.cv_run.specs.Names.{first_seen, is_ordinary, keys_in, name_of_command, name_of_key, named_keys, names_counted, names_in, names_shown, with_names};
+ghost use Rattle.cv_run.specs.Names.{AreNames, first_seen, is_ordinary, keys_in, name_of_command, name_of_key, named_keys, names_counted, names_in, names_shown, with_names};
 
+use crate::laws::shown_names_are_keys;
 use cv_doc::Command;
 use cv_props::{Decls, Key};
 use cv_spec_text::Name;
@@ -15,8 +17,9 @@ use indexmap::IndexSet;
 use std::alloc::{AllocError, Global};
 
 /// The properties of these names.
-#[tactic(auto, using(crate::proofs::Naming::named_next))]
+#[tactic(auto, using(crate::proofs::Naming::named_next, crate::proofs::Naming::names_head, crate::proofs::Naming::names_tail))]
 pub fn named_keys(alloc: Global, names: &[Name]) -> Result<Vec<Key>, AllocError>
+    requires { AreNames names.now }
     ensures { IfOk result (λ keys. keys.items ≡ named_keys names.now) }
 {
     let mut keys = Vec::new(alloc);
@@ -29,11 +32,12 @@ pub fn named_keys(alloc: Global, names: &[Name]) -> Result<Vec<Key>, AllocError>
 }
 
 fn add_named(alloc: Global, keys: &mut Vec<Key>, name: &Name) -> Result<(), AllocError>
+    requires { is_name name.now ≡ true }
     ensures { OnOk result (keys.new.items ≡ keys.old.items ++ named_keys (name.now ∷ [])) }
 {
-    if let Some(key) = Key::named(alloc, name.text())? {
-        keys.push(key)?;
-    }
+    shown_names_are_keys();
+    let named = Key::named(alloc, name.text())?;
+    keys.push(named.unwrap())?;
     Ok(())
 }
 

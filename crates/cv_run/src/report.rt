@@ -2,10 +2,12 @@
 ghost use Rattle.std.specs.Prelude.{◌≤◌, IfErr, IfOk, length};
 ghost use Rattle.cv_doc.specs.Kept.{IsSound};
 ghost use Rattle.cv_doc.specs.Reading.{document_of, shape_of};
+ghost use Rattle.cv_doc.specs.Refusals.{RefusesCounted};
 ghost use Rattle.cv_run.specs.Fates.{computed, fate_of_document, fate_of_reading};
 ghost use Rattle.cv_run.specs.Telling.{HasContents, IsRefusal, TellsOf};
 
 use crate::contents::{Contents, contents_of};
+use crate::laws::documents_have_one_report;
 use crate::names::count_names;
 use crate::status::Status;
 use crate::tree::computed_of;
@@ -29,6 +31,7 @@ pub fn report_of(alloc: Global, bytes: &[u8], limit: u32) -> Result<Report, Stat
     requires most { limit ≤ 32768 }
     ensures tells { IfOk result (λ report. TellsOf (fate_of_reading (document_of bytes.now)) limit report) }
     ensures refused { IfErr result (λ status. IsRefusal (fate_of_reading (document_of bytes.now)) status) }
+    ensures counted { RefusesCounted (document_of bytes.now) }
 {
     let document = match Document::of_bytes(alloc, bytes) {
         Ok(document) => document,
@@ -73,6 +76,7 @@ fn report_of_contents(
     requires most { limit ≤ 32768 }
     ensures { IfOk result (λ report. TellsOf (computed (shape_of document.now)) limit report) }
 {
+    documents_have_one_report();
     let all = computed_of(
         alloc,
         &document.elements,

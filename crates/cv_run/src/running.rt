@@ -4,15 +4,15 @@ ghost use Rattle.std.specs.Io.KnownBytes.{Appends, IsAtEnd, Keeps};
 ghost use Rattle.cv_io.specs.Causes.{Rose};
 ghost use Rattle.cv_io.specs.Streams.{TookPrefix};
 ghost use Rattle.cv_words.specs.Words.{IsRefused, texts_of};
-ghost use Rattle.cv_run.specs.Fates.{fate_of, malformed, too_large, unbuilt};
+ghost use Rattle.cv_run.specs.Fates.{IsTooLarge, fate_of, malformed, too_large, unbuilt};
 ghost use Rattle.cv_run.specs.Outcome.{AreRead, ComesOf, HasAllButMemory, HasWritten, HasWrittenFront, IsCutShort, IsSound, TellsOfDocument, WritesNothing};
 ghost use Rattle.cv_run.specs.StatusLines.{line_of};
-ghost use Rattle.cv_run.specs.Telling.{EndsEarly, IsStopped, TellsOf, text_of};
+ghost use Rattle.cv_run.specs.Telling.{EndsEarly, IsOversized, IsStopped, TellsOf, text_of};
 
 use crate::report::{Report, report_of};
 use crate::status::Status;
-use cv_io::{ReadErr, Sink, SinkErr, Source, read_all};
 use cv_doc::{BadDoc, What};
+use cv_io::{ReadErr, Sink, SinkErr, Source, read_all};
 use cv_report::report;
 use cv_words::{WordsErr, read_words};
 use std::alloc::Global;
@@ -37,6 +37,7 @@ pub fn run<S: Source, O: Sink, E: Sink>(
     ensures words { (result ≡ Status.Usage) ⊎ (result ≡ Status.NoMemory) ⊎ AreRead (texts_of words.now.items) }
     ensures read_fault { result ≡ Status.ReadFault → Rose (S.faults src.old) (S.faults src.new) }
     ensures too_large { (what : What) → result ≡ Status.TooLarge what → IfSome (S.left src.old) (λ given. fate_of given ≡ too_large what) }
+    ensures parts { (what : What) → result ≡ Status.TooLarge what → IfSome (S.left src.old) (λ given. IsTooLarge given what) }
     ensures malformed { (why : BadDoc) → result ≡ Status.Malformed why → IfSome (S.left src.old) (λ given. fate_of given ≡ malformed why) }
     ensures unbuilt { result ≡ Status.Unbuilt → IfSome (S.left src.old) (λ given. fate_of given ≡ unbuilt) }
     ensures write_fault { result ≡ Status.WriteFault → Rose (O.faults out.old) (O.faults out.new) }
@@ -77,6 +78,7 @@ fn answer<S: Source, O: Sink>(alloc: Global, words: &[String], src: &mut S, out:
     ensures words { (result ≡ Status.Usage) ⊎ (result ≡ Status.NoMemory) ⊎ AreRead (texts_of words.now) }
     ensures read_fault { result ≡ Status.ReadFault → Rose (S.faults src.old) (S.faults src.new) }
     ensures too_large { (what : What) → result ≡ Status.TooLarge what → IfSome (S.left src.old) (λ given. fate_of given ≡ too_large what) }
+    ensures parts { (what : What) → result ≡ Status.TooLarge what → IfSome (S.left src.old) (λ given. IsTooLarge given what) }
     ensures malformed { (why : BadDoc) → result ≡ Status.Malformed why → IfSome (S.left src.old) (λ given. fate_of given ≡ malformed why) }
     ensures unbuilt { result ≡ Status.Unbuilt → IfSome (S.left src.old) (λ given. fate_of given ≡ unbuilt) }
     ensures write_fault { result ≡ Status.WriteFault → Rose (O.faults out.old) (O.faults out.new) }
@@ -117,6 +119,7 @@ fn prepare<S: Source>(alloc: Global, src: &mut S, limit: u32) -> Result<Report, 
     ensures few { IfOk result (λ report. length report.all.items ≤ 16384) }
     ensures read_whole { IfOk result (λ report. IsAtEnd (S.left src.new)) }
     ensures refused { IfErr result (λ status. IsStopped (S.left src.old) (Rose (S.faults src.old) (S.faults src.new)) status) }
+    ensures parts { IfErr result (λ status. IsOversized (S.left src.old) status) }
     ensures early { IfErr result EndsEarly }
     ensures read_before { IfErr result (λ status. TellsOfDocument status → IsAtEnd (S.left src.new)) }
 {

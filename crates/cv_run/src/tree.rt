@@ -78,7 +78,10 @@ impl Computing {
     {
         let declarations = &self.declarations[index as usize];
         match parent {
-            Some(parent) => self.computed_under(declarations, Some(&self.all[parent as usize].values)),
+            Some(parent) => self.computed_under(
+                declarations,
+                Some(&self.all[parent as usize].values),
+            ),
             None => self.computed_under(declarations, None),
         }
     }

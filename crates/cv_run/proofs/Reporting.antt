@@ -1,0 +1,28 @@
+-- The text of a report is the one report of its document.
+use Rattle.std.proofs.Common.{◌≡◌, ℕ, ◌≤◌, length, List, refl, sym, ◌∙◌, ap, arith}
+use Rattle.cv_doc.specs.Kept.{IsSound}
+use Rattle.cv_doc.specs.Reading.{Shape}
+use Rattle.cv_report.specs.Report.{report_text}
+use Rattle.cv_run.specs.Fates.{computed}
+use Rattle.cv_run.specs.Names.{shown_of}
+use Rattle.cv_run.specs.Single.{HasOneReport, IsOnlyReport}
+use Rattle.cv_run.specs.Styles.{notes_of}
+use Rattle.cv_run.specs.Telling.{TellsOf, text_of}
+use Rattle.cv_run.specs.Tree.{AreComputed, IsReport}
+use Rattle.cv_run.specs.declared.report.Report.{Report}
+
+-- what is a report is the one that there is
+the_only : (document : Shape) (limit : ℕ) (text : List ℕ) → HasOneReport document limit → IsReport document limit text → IsOnlyReport document limit text
+the_only document limit text one is = record { report = is; only = λ other is_other. one.1.only other is_other ∙ sym (one.1.only text is) }
+
+pub tells_of : (document : Shape) (limit : ℕ) (report : Report) → IsSound document → HasOneReport document limit → AreComputed document.elements limit report.all.items → report.notes.items ≡ notes_of document → report.shown.items ≡ shown_of document → TellsOf (computed document) limit report
+tells_of document limit report sound one are_computed notes shown = record {
+  document = document;
+  document_computed = refl;
+  few = omega (arith, are_computed.count, sound.few_elements);
+  only = the_only document limit (text_of report) one (record {
+    all = report.all.items;
+    computed = are_computed;
+    report = ap (λ n. report_text n report.shown.items report.all.items) notes ∙ ap (λ s. report_text (notes_of document) s report.all.items) shown;
+  });
+}
