@@ -8,6 +8,8 @@ pub mod Kept
 pub mod KeptChoices
 pub mod KeptProducts
 pub mod KeptSums
+pub mod KindProducts
+pub mod KindReadings
 pub mod KindTypes
 pub mod KindsKept
 pub mod Least
@@ -20,6 +22,7 @@ pub mod Rows
 pub mod Settled
 pub mod Sizes
 pub mod Steps
+pub mod SumKinds
 pub mod SumRange
 pub mod Texts
 pub mod TreeKinds

@@ -14,7 +14,8 @@ use Rattle.cv_calc.specs.declared.calc.Calc.TheViews.{out-Calc, roll-Calc, roll-
 use Rattle.cv_calc.specs.Tree.{Each, by_cases, fold-Num, fold-Sum, fold-Product, fold-Negate, fold-Invert, fold-Min, fold-Max, fold-Clamp}
 use Rattle.cv_calc.specs.Types.{sum_type, product_type, shared_hint, product_under, added_next, multiplied_next, shared_next, negated}
 use Rattle.cv_simplify.proofs.Measures.{Kind, nothing, plain, measured, added_kind, multiplied_kind, lifted, added_assoc, added_none, multiplied_assoc, multiplied_none}
-use Rattle.cv_simplify.proofs.KindTypes.{kind_type, IsReal, added_step, kind_hint, type_under, IsHint, hint_before, multiplied_step, shared_step, type_by_hint, plain_inverse}
+use Rattle.cv_simplify.proofs.KindTypes.{kind_type, IsReal, added_step}
+use Rattle.cv_simplify.proofs.KindProducts.{kind_hint, type_under, IsHint, hint_before, multiplied_step, shared_step, type_by_hint, plain_inverse}
 
 -- ---- lists of kinds
 
