@@ -21,6 +21,8 @@ pub mod Ranges
 pub mod Rows
 pub mod Settled
 pub mod Sizes
+pub mod Spelt
+pub mod SpeltTexts
 pub mod Steps
 pub mod SumKinds
 pub mod SumRange
