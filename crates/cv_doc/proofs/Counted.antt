@@ -5,7 +5,6 @@ use Rattle.std.specs.Option.{option_map_or}
 use Rattle.serde_json.specs.Data.{Data, Items, no_items, item}
 use Rattle.serde_json.specs.Find.{get, as_array, as_null, as_object}
 use Rattle.cv_doc.specs.declared.elements.Elem.{Elem}
-use Rattle.cv_doc.specs.declared.command.Command.{Command}
 use Rattle.cv_doc.specs.declared.refusal.BadDoc.TheVariants.{BadParent, NotJson}
 use Rattle.cv_doc.specs.declared.refusal.What.{What}
 use Rattle.cv_doc.specs.declared.refusal.What.TheVariants.{Elements, Show, Commands}
@@ -13,7 +12,7 @@ use Rattle.cv_doc.specs.Json.{json_of, text_of, whole_of, whole_up_to}
 use Rattle.cv_doc.specs.Refusals.{Refusal, malformed, too_large, field, and_then, all_from, IsCounted, RefusesCounted}
 use Rattle.cv_doc.specs.Members.{count_of, counted, element_in, element_path, elements_in, elements_of, most_elements, most_names, most_size, name_in, name_of, names_of, parent_in, show_in, show_path, sizes_of, style_path, text_in, viewport_in}
 use Rattle.cv_doc.specs.Commands.{command_in, command_of, command_path, commands_in, commands_of, most_commands}
-use Rattle.cv_doc.specs.Reading.{Shape, document_in, document_of, members_in}
+use Rattle.cv_doc.specs.Reading.{document_in, document_of, members_in}
 
 -- ---- results
 

@@ -1,5 +1,5 @@
 -- Something is computed of each element: the values of the one valuation, and the causes that hold in it.
-use Rattle.std.proofs.Common.{◌≡◌, ◌≢◌, ℕ, zero, suc, ◌<◌, Bool, true, false, List, [], ◌∷◌, length, map, Option, Some, None, is_some, ◌↔◌, ◌⊎◌, inl, inr, refl, sym, ◌∙◌, ap, subst, arith}
+use Rattle.std.proofs.Common.{◌≡◌, ◌≢◌, ℕ, zero, suc, true, false, List, [], ◌∷◌, map, Option, Some, None, is_some, ◌↔◌, ◌⊎◌, inl, inr, refl, sym, ◌∙◌, ap, subst, arith}
 use Rattle.std.specs.Prelude.{Contains, IsSome, slice_get}
 use Rattle.std.proofs.Math.Path.{fun_ext}
 use Rattle.std.proofs.lemmas.Option.{get_or_from_slice_get, slice_get_within}
@@ -20,7 +20,7 @@ use Rattle.cv_props.specs.TableLaws.{PropertiesAreFound}
 use Rattle.cv_props.specs.Valuations.{Values, outcome_at, with_outcome}
 use Rattle.cv_props.specs.ValuationLaws.{OutcomesAreByKey}
 use Rattle.cv_props.specs.Winners.{Declarations}
-use Rattle.cv_element.specs.Element.{the_element, as_read, values_of, cause_of, Faults, IsOnce, IsByName, IsComputed}
+use Rattle.cv_element.specs.Element.{the_element, as_read, values_of, cause_of, Faults, IsOnce, IsComputed}
 use Rattle.cv_element.specs.FaultNames.{named, fault_of}
 use Rattle.cv_element.specs.Settling.{start_of}
 use Rattle.cv_element.proofs.Ending.{starts}

@@ -1,5 +1,5 @@
 -- Where the parent's values are no CSS-wide keywords, an element is one of loose properties, and its values are none either.
-use Rattle.std.proofs.Common.{◌≡◌, ℕ, Bool, true, false, List, [], ◌∷◌, Option, Some, None, is_some, ◌⊎◌, inl, inr, refl, sym, ◌∙◌, ap, subst}
+use Rattle.std.proofs.Common.{◌≡◌, ℕ, true, false, List, Option, Some, None, is_some, inl, inr, refl, sym, ◌∙◌, ap, subst}
 use Rattle.std.specs.FinMap as map
 use Rattle.std.proofs.lemmas.Map.Views.{Contains-keys_from_lookup}
 use Rattle.cv_spec_text.specs.declared.token.Token.{Token}
@@ -16,9 +16,8 @@ use Rattle.cv_props.specs.declared.key.Key.TheVariants.{Table}
 use Rattle.cv_props.specs.declared.property.Property.TheVariants.{FontSize}
 use Rattle.cv_props.specs.Keys.{same_key}
 use Rattle.cv_props.specs.TableLaws.{PropertiesAreFound}
-use Rattle.cv_props.specs.Valuations.{Values, is_keyword, outcome_of, outcome_at, trim}
+use Rattle.cv_props.specs.Valuations.{Values, is_keyword, outcome_of, trim}
 use Rattle.cv_props.specs.Winners.{Declarations, declaration_of}
-use Rattle.cv_element.specs.Answers.{keyword_in}
 use Rattle.cv_element.specs.Element.{declared_in, is_white, keyword, lists_in, the_element, as_read, values_of}
 use Rattle.cv_element.specs.Single.{HoldNoKeyword, ParentHoldsNoKeyword}
 use Rattle.cv_element.proofs.Ending.{some_declared}

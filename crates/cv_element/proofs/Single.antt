@@ -1,9 +1,9 @@
 -- What is computed of an element is single.
-use Rattle.std.proofs.Common.{◌≡◌, ℕ, Option, ◌↔◌, ◌⊎◌, refl, sym, ◌∙◌, ap, subst}
+use Rattle.std.proofs.Common.{◌≡◌, ℕ, Option, ◌⊎◌, refl, sym, ◌∙◌, ap, subst}
 use Rattle.std.specs.Prelude.{Contains, IsSome}
 use Rattle.std.specs.Map.{keys_of}
 use Rattle.cv_spec_text.specs.declared.token.Token.{Token}
-use Rattle.cv_spec_element.specs.Element.{Element, Outcome, tokens, invalid}
+use Rattle.cv_spec_element.specs.Element.{Element, Outcome}
 use Rattle.cv_spec_element.specs.Valuation.{Cause, IsInvalid, IsValuation, HasOneValuation, HasOneCause}
 use Rattle.cv_props.specs.declared.computed.Cause.{Cause as Reported}
 use Rattle.cv_props.specs.declared.computed.Computed.{Computed}

@@ -1,6 +1,6 @@
 -- Where the same is told of elements, their lines are the same.
-use Rattle.std.proofs.Common.{◌≡◌, ℕ, zero, suc, ◌+◌, ◌<◌, Bool, true, false, List, [], ◌∷◌, ◌++◌, length, Option, Some, None, ◌↔◌, ◌⊎◌, inl, inr, refl, sym, ◌∙◌, ap, subst, arith}
-use Rattle.std.specs.Prelude.{Contains, find, option_map}
+use Rattle.std.proofs.Common.{◌≡◌, ℕ, zero, suc, ◌+◌, Bool, true, false, List, [], ◌∷◌, ◌++◌, Option, Some, None, ◌↔◌, ◌⊎◌, inl, inr, refl, sym, ◌∙◌, ap, subst, arith}
+use Rattle.std.specs.Prelude.{Contains}
 use Rattle.std.specs.List.{AllZip, enumerate_from, flat_map, slice_get}
 use Rattle.std.proofs.Math.Path.{fun_ext}
 use Rattle.std.proofs.lemmas.Option.{slice_get-get_or}
@@ -9,8 +9,7 @@ use Rattle.cv_props.specs.declared.computed.Computed.{Computed}
 use Rattle.cv_props.specs.declared.key.Key.{Key}
 use Rattle.cv_props.specs.Keys.{same_key}
 use Rattle.cv_props.specs.TableLaws.{PropertiesAreFound}
-use Rattle.cv_props.specs.Valuations.{outcome_at, outcome_text}
-use Rattle.cv_report.specs.Report.{cause_lines, cause_of, element_text, elements_text, outcome_line, value_lines}
+use Rattle.cv_report.specs.Report.{cause_of, element_text, elements_text, value_lines}
 use Rattle.cv_element.specs.Element.{Faults, IsOnce}
 use Rattle.cv_element.specs.Single.{TellsTheSame}
 use Rattle.cv_run.proofs.Keys.{key_same_itself, keys_same}

@@ -1,5 +1,5 @@
 -- The text of a report is the one report of its document.
-use Rattle.std.proofs.Common.{◌≡◌, ℕ, ◌≤◌, length, List, refl, sym, ◌∙◌, ap, arith}
+use Rattle.std.proofs.Common.{◌≡◌, ℕ, List, refl, sym, ◌∙◌, ap, arith}
 use Rattle.cv_doc.specs.Kept.{IsSound}
 use Rattle.cv_doc.specs.Reading.{Shape}
 use Rattle.cv_report.specs.Report.{report_text}

@@ -1,14 +1,12 @@
 -- A tree has one valuation, and a document one report.
-use Rattle.std.proofs.Common.{◌≡◌, ℕ, zero, suc, ◌+◌, ◌<◌, ◌≤◌, List, [], ◌∷◌, ◌++◌, length, Option, Some, None, ◌⊎◌, inl, inr, refl, sym, ◌∙◌, ap, subst, arith, length-append}
-use Rattle.std.specs.Prelude.{Contains, option_map}
+use Rattle.std.proofs.Common.{◌≡◌, ℕ, zero, suc, ◌+◌, ◌<◌, ◌≤◌, List, [], ◌∷◌, ◌++◌, length, Option, Some, None, inl, inr, refl, sym, ◌∙◌, ap, subst, arith, length-append}
+use Rattle.std.specs.Prelude.{option_map}
 use Rattle.std.specs.List.{AllZip, slice_get}
 use Rattle.std.proofs.lemmas.Option.{slice_get_within}
 use Rattle.cv_doc.specs.declared.elements.Elem.{Elem}
 use Rattle.cv_doc.specs.Kept.{IsParentOf, IsTree}
 use Rattle.cv_doc.specs.Reading.{Shape}
-use Rattle.cv_props.specs.declared.computed.Cause.{Cause}
 use Rattle.cv_props.specs.declared.computed.Computed.{Computed}
-use Rattle.cv_props.specs.declared.key.Key.{Key}
 use Rattle.cv_props.specs.TableLaws.{PropertiesAreFound}
 use Rattle.cv_props.specs.Valuations.{Values}
 use Rattle.cv_props.specs.Winners.{Declarations}
@@ -18,7 +16,7 @@ use Rattle.cv_element.specs.Single.{HasOneResult, HoldNoKeyword, ParentHoldsNoKe
 use Rattle.cv_run.specs.Names.{shown_of}
 use Rattle.cv_run.specs.Single.{HaveOneResult, HasOneReport, IsOnlyReport}
 use Rattle.cv_run.specs.Styles.{declarations_of, notes_of}
-use Rattle.cv_run.specs.Tree.{AreComputed, IsOfElement, IsReport, parent_values}
+use Rattle.cv_run.specs.Tree.{AreComputed, IsReport, parent_values}
 use Rattle.cv_run.proofs.Growing.{AreFirst, first_next, front_or_last, parent_at}
 use Rattle.cv_run.proofs.Lines.{IsWrittenAlike, texts_same, written_alike}
 

@@ -1,21 +1,18 @@
 -- A walk over a tree: each element is ready, and at the end all are computed.
-use Rattle.std.proofs.Common.{◌≡◌, ℕ, zero, suc, ◌+◌, ◌<◌, ◌≤◌, List, [], ◌∷◌, ◌++◌, All, length, refl, sym, ap, ◌∙◌, subst, arith, ◌⊎◌, inl, inr, append-nil, length-append}
-use Rattle.std.specs.Prelude.{Option, Some, None, Result, Ok, Err, ⊤, IfSome, map, option_map}
+use Rattle.std.proofs.Common.{◌≡◌, ℕ, suc, ◌+◌, ◌<◌, ◌≤◌, List, [], ◌∷◌, ◌++◌, All, length, refl, sym, ap, ◌∙◌, subst, arith, inl, inr, append-nil, length-append}
+use Rattle.std.specs.Prelude.{Option, Some, None, Ok, IfSome, map, option_map}
 use Rattle.std.specs.List.{slice_get, slice_index_or}
-use Rattle.std.specs.declared.alloc.AllocError.{AllocError}
 use Rattle.std.proofs.lemmas.List.{append_assoc}
 use Rattle.std.proofs.lemmas.List.Elements.{All-push}
-use Rattle.std.proofs.lemmas.Option.{slice_get_within, slice_get-map}
+use Rattle.std.proofs.lemmas.Option.{slice_get-map}
 use Rattle.cv_doc.specs.declared.elements.Elem.{Elem}
 use Rattle.cv_doc.specs.Kept.{IsParentOf, IsTree}
 use Rattle.cv_doc.specs.Walks.{AreReady, Reaches}
-use Rattle.cv_props.specs.declared.computed.Computed.{Computed}
-use Rattle.cv_props.specs.Valuations.{Values}
 use Rattle.cv_props.specs.Winners.{Declarations}
 use Rattle.cv_element.specs.Element.{AreKept, IsComputed}
 use Rattle.cv_run.specs.Styles.{declarations_of}
 use Rattle.cv_run.specs.Tree.{AreComputed, IsOfElement, parent_values}
-use Rattle.cv_run.specs.Walking.{IsNextOf, IsOneMore, IsReady, Stepped}
+use Rattle.cv_run.specs.Walking.{IsOneMore, IsReady, Stepped}
 use Rattle.cv_run.specs.declared.tree.Computing.{Computing}
 use Rattle.cv_run.proofs.Growing.{AreFirst, first_next, get_last}
 

@@ -1,4 +1,4 @@
-use Rattle.std.proofs.Common.{arith, subst, sym, ap, ◌≡◌, ◌∷◌, ◌++◌}
+use Rattle.std.proofs.Common.{arith, subst, ◌≡◌, ◌∷◌}
 use Rattle.std.proofs.lemmas.Grind.{common_steps}
 use Rattle.cv_run.specs.Names.{AreNames}
 use Rattle.cv_run.proofs.Naming.{named_next, names_tail}

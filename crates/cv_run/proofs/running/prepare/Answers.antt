@@ -1,4 +1,4 @@
-use Rattle.std.proofs.Common.{ap, Err, subst, sym, length, ◌≤◌}
+use Rattle.std.proofs.Common.{ap, Err, subst, sym}
 use Rattle.cv_io.specs.Streams.{GaveAll}
 use Rattle.cv_doc.specs.Reading.{document_of}
 use Rattle.cv_run.specs.Fates.{fate_of_reading}
