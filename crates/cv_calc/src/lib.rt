@@ -5,6 +5,7 @@ pub mod calc;
 pub mod context;
 mod laws;
 mod names;
+mod power;
 mod product;
 mod shape;
 #[cfg(test)]

@@ -4,8 +4,9 @@ ghost use Rattle.std.specs.Prelude.{◌≡◌, Some};
 ghost use Rattle.cv_calc.specs.Types as types;
 ghost use Rattle.cv_calc.specs.Products as products;
 
+use crate::power::NO_POWERS;
 use crate::shape::Shape;
-use crate::types::{NO_POWERS, is_plain, multiplied_next, shared_next};
+use crate::types::{is_plain, multiplied_next, shared_next};
 use crate::unit::{Base, NumType};
 
 /// The type of a product without a hint, and with each base as the hint of all its children.

@@ -15,10 +15,10 @@ use Rattle.cv_calc.specs.declared.calc.Calc.TheVariants as tree
 use Rattle.cv_calc.specs.declared.calc.Calc.TheOpen.{Calc-F, Num, Sum, Product, Negate, Invert, Min, Max, Clamp}
 use Rattle.cv_calc.specs.declared.calc.Calc.TheViews.{out-Calc}
 use Rattle.cv_calc.specs.Tree.{Each, by_cases, fold-Num, fold-Sum, fold-Product, fold-Negate, fold-Invert, fold-Min, fold-Max, fold-Clamp}
-use Rattle.cv_tokser.specs.Clean.{is_bad, begins_white, begins_string, is_url_function, IsClean}
+use Rattle.cv_tokser.specs.Clean.{is_bad, begins_white, is_url_function, IsClean}
 use Rattle.cv_simplify.specs.declared.place.Place.{Place}
 use Rattle.cv_simplify.specs.declared.place.Place.TheVariants.{Operand, Whole, Added, Multiplied, Argument}
-use Rattle.cv_simplify.specs.Text.{opening, closing, operator, call, numeric, has_decimal, decimal_tokens, quotient_tokens, bracketed, number_tokens, number_alone, prefix, has_brackets, placed, number_added, number_placed, negative_placed, inverse_placed, Written, Line, no_line, with_child, with_rank, with_ranked, ranked, line_of, arguments_of, written, written_step, calc_text_as, calc_text}
+use Rattle.cv_simplify.specs.Text.{closing, operator, call, numeric, has_decimal, decimal_tokens, quotient_tokens, bracketed, number_tokens, number_alone, prefix, placed, number_added, number_placed, negative_placed, inverse_placed, Written, Line, no_line, with_child, with_rank, with_ranked, ranked, line_of, arguments_of, written, written_step, calc_text_as, calc_text}
 
 -- ---- lists side by side
 
@@ -227,12 +227,14 @@ module _ (further : Place) (suits : (ts : List Token) → Suits further ts → I
           let child = suits (w.at_place further) (k further) in
           (started_line l.line (w.at_place further) h.inner (h.some is) child.0 child.1 child.2, child.2)
       go false is =
-          let child = k Operand in
-          (record {
-            tidy = tidy_append l.line (w.at_place Operand) h.inner.tidy child.inner.tidy (ap (λ b. b && begins_white (w.at_place Operand)) h.inner.end);
-            begin = begins_either l.line (w.at_place Operand) h.inner.begin child.inner.begin;
-            end = ends_full l.line (w.at_place Operand) child.some ∙ child.inner.end;
-          }, child.some)
+          let child = k Operand in (
+            record {
+              tidy = tidy_append l.line (w.at_place Operand) h.inner.tidy child.inner.tidy (ap (λ b. b && begins_white (w.at_place Operand)) h.inner.end);
+              begin = begins_either l.line (w.at_place Operand) h.inner.begin child.inner.begin;
+              end = ends_full l.line (w.at_place Operand) child.some ∙ child.inner.end;
+            },
+            child.some,
+          )
 
   child_line : (l : Line) (w : Written) → IsLine l → AllPlaces w → IsLine (with_child Operand further l w)
   child_line l w h k =
