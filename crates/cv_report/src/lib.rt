@@ -1,6 +1,7 @@
 //! The lines of a report, and their way into a sink.
 #![tactic(auto)]
 
+mod causes;
 mod lines;
 mod writing;
 

@@ -102,8 +102,8 @@ pub fn text_of_outcome(
     Ok(text)
 }
 
-/// The cause for which a key is bad, if it is.
-pub fn cause_of<'a>(key: &Key, faults: &'a [(Key, Cause)]) -> Option<&'a Cause>
+// The cause for which a key is bad, if it is.
+fn cause_of<'a>(key: &Key, faults: &'a [(Key, Cause)]) -> Option<&'a Cause>
     ensures { option_copied result ≡ cause_of key.now faults.now }
 {
     faults

@@ -1,13 +1,14 @@
 // The report, line by line into a sink.
-ghost use Rattle.std.specs.Prelude.{◌≡◌, ◌<◌, length, OnOk, OnErr};
+ghost use Rattle.std.specs.Prelude.{◌≡◌, ◌<◌, ◌++◌, length, OnOk, OnErr};
 ghost use Rattle.std.specs.Option.{option_copied};
 ghost use Rattle.std.specs.Io.KnownBytes.{Appends};
 ghost use Rattle.cv_io.specs.Causes.{HasSinkCause};
 ghost use Rattle.cv_io.specs.Streams.{TookPrefix};
-ghost use Rattle.cv_report.specs.Report.{cause_lines, element_text, elements_text, note_line, notes_text, outcome_line, report_text, value_lines};
+ghost use Rattle.cv_report.specs.Report.{cause_lines, element_text, elements_text, note_line, notes_text, outcome_line, report_text};
 ghost use Rattle.cv_report.specs.Written.{TookText};
 
-use crate::lines::{cause_of, text_of_cause, text_of_note, text_of_outcome};
+use crate::causes::Causes;
+use crate::lines::{text_of_cause, text_of_note, text_of_outcome};
 use cv_io::{Sink, SinkErr, put};
 use cv_props::{Cause, Computed, Key, Note};
 use std::alloc::Global;
@@ -87,8 +88,9 @@ fn write_element<O: Sink>(
     ensures taken { TookText (O.taken out.old) (O.taken out.new) (element_text shown.now (element, computed.now)) result }
     ensures cause { HasSinkCause (O.faults out.old) (O.faults out.new) result }
 {
+    let causes = Causes::of(alloc, computed.faults.as_slice())?;
     for key in shown {
-        match write_values(alloc, element, key, computed, out) {
+        match write_values(alloc, element, key, computed, causes.get(key), out) {
             Ok(()) => {}
             Err(error) => return Err(error),
         }
@@ -102,22 +104,17 @@ fn write_values<O: Sink>(
     element: u32,
     key: &Key,
     computed: &Computed,
+    cause: Option<&Cause>,
     out: &mut O,
 ) -> Result<(), SinkErr>
-    ensures taken { TookText (O.taken out.old) (O.taken out.new) (value_lines element key.now computed.now) result }
+    ensures taken { TookText (O.taken out.old) (O.taken out.new) (outcome_line element key.now computed.now ++ cause_lines element key.now (option_copied cause.entry)) result }
     ensures cause { HasSinkCause (O.faults out.old) (O.faults out.new) result }
 {
     match write_outcome(alloc, element, key, computed, out) {
         Ok(()) => {}
         Err(error) => return Err(error),
     }
-    write_cause(
-        alloc,
-        element,
-        key,
-        cause_of(key, computed.faults.as_slice()),
-        out,
-    )
+    write_cause(alloc, element, key, cause, out)
 }
 
 fn write_outcome<O: Sink>(
