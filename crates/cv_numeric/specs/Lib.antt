@@ -1,0 +1,4 @@
+pub mod Matched
+pub mod Quantities
+pub mod Calculations
+pub mod Numeric

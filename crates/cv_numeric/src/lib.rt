@@ -1,0 +1,15 @@
+//! Numeric items: what one numeric token or one math function is as a number, a length or another quantity.
+#![tactic(auto)]
+
+mod calculation;
+pub mod matched;
+mod numeric;
+pub mod quantity;
+
+pub use matched::Matched;
+pub use numeric::{
+    angle, integer, length, length_percentage, length_percentage_in, number, percentage, resolution,
+    time,
+};
+pub use quantity::{Quantity, Range};
+pub use std::alloc::AllocError as OutOfMemory;
