@@ -1,5 +1,6 @@
--- Syntax strings, or their first fault with its place.
-use Rattle.std.specs.Prelude.{◌≡◌, ℕ, ◌+◌, Bool, not, ◌==◌, ◌&&◌, nat_lt, List, [], ◌∷◌, length, take, drop, Result, Ok, Err, Option, Some, None, if◌then◌else◌}
+-- Syntax strings, or their first fault with its place, counted in code points (Properties and Values API 1, "Syntax Strings"). That a
+-- fault has a place, and which of several counts, is this project's own: the standard says only that the string is invalid.
+use Rattle.std.specs.Prelude.{◌≡◌, ◌<◌, ℕ, ◌+◌, Bool, not, ◌==◌, ◌&&◌, nat_lt, List, [], ◌∷◌, length, take, drop, Result, Ok, Err, Option, Some, None, if◌then◌else◌}
 use Rattle.std.specs.List.{prefix_len}
 use Rattle.std.specs.Char.{is_ascii_whitespace}
 use Rattle.cv_spec_text.specs.Characters.{number_sign, plus_sign, asterisk, less_than_sign, greater_than_sign, is_ident_code_point, begins_with}
@@ -17,7 +18,8 @@ use Rattle.cv_syntax.specs.declared.syntax.SyntaxErr.TheVariants.{Memory, Empty,
 abbrev pub vertical_line : ℕ
 vertical_line = 0x7C
 
--- how much whitespace stands at the front
+-- How much whitespace stands at the front. A line break of any kind and a form feed are whitespace too, as in a style sheet before it
+-- is preprocessed (CSS Syntax 3, "Preprocessing the input stream").
 abbrev pub blank_length : List ℕ → ℕ
 blank_length text = prefix_len is_ascii_whitespace text
 
@@ -114,6 +116,11 @@ syntax text =
     if is_blank text then Err Empty
     else if is_star text then Ok Any
     else of_components (components_of 0 (parts text))
+
+-- a universal syntax, or one component at least
+abbrev pub IsFilled : Syntax → Type 0
+IsFilled Any = Unit {0}
+IsFilled (Of components) = 0 < length components
 
 -- the error is the fault, or memory was wanting
 abbrev pub IsFault : {A : Type 0} → Result A SyntaxErr → SyntaxErr → Type 0

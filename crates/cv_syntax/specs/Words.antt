@@ -1,6 +1,6 @@
--- The names and words of syntax strings.
-use Rattle.std.specs.Prelude.{ℕ, Bool, ◌||◌, ◌&&◌, ◌==◌, List, map, drop, codes, bytes_eq, Option, Some, None, if◌then◌else◌}
-use Rattle.std.specs.Char.{to_ascii_lowercase}
+-- The names and words of syntax strings (Properties and Values API 1, "Supported Names" and "Syntax Strings").
+use Rattle.std.specs.Prelude.{ℕ, Bool, ◌||◌, ◌&&◌, ◌==◌, List, drop, codes, bytes_eq, Option, Some, None, if◌then◌else◌}
+use Rattle.cv_spec_text.specs.Keywords.{is_word, is_css_wide_keyword}
 use Rattle.cv_spec_text.specs.Characters.{hyphen, is_ident_start, begins_by, begins_with}
 use Rattle.cv_syntax.specs.declared.syntax.Kind.{Kind}
 use Rattle.cv_syntax.specs.declared.syntax.Kind.TheVariants.{Length, Number, Percentage, LengthPercentage, Color, Url, Integer, Angle, Time, Resolution, Str, CustomIdent}
@@ -22,17 +22,14 @@ named name =
     else if bytes_eq name (codes "custom-ident") then Some CustomIdent
     else None
 
--- the names of components that are left out
+-- the names of the standard's components that this project leaves out
 unfoldable pub is_left_out : List ℕ → Bool
 is_left_out name = bytes_eq name (codes "image") || bytes_eq name (codes "transform-function") || bytes_eq name (codes "transform-list")
 
-abbrev pub is_word : List ℕ → List ℕ → Bool
-is_word name word = bytes_eq (map to_ascii_lowercase name) word
-
--- a keyword of every property, or `default`
+-- no literal: a CSS-wide keyword, or `default`, without ASCII case
 unfoldable pub is_forbidden : List ℕ → Bool
-is_forbidden name = is_word name (codes "initial") || is_word name (codes "inherit") || is_word name (codes "unset") || is_word name (codes "revert") || is_word name (codes "revert-layer") || is_word name (codes "default")
+is_forbidden name = is_css_wide_keyword name || is_word (codes "default") name
 
--- an ident without escapes begins here
+-- an ident without escapes begins here (CSS Syntax 3, "Check if three code points would start an ident sequence")
 unfoldable pub begins_ident : List ℕ → Bool
 begins_ident text = begins_by is_ident_start text || begins_with hyphen text && begins_by (λ c. c == hyphen || is_ident_start c) (drop 1 text)
