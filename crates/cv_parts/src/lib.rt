@@ -4,6 +4,6 @@
 mod parts;
 pub mod separator;
 
-pub use parts::{has_white_end, part_length, parts, trim};
+pub use parts::{comma_parts, has_white_end, part_length, parts, spaced_parts, trim};
 pub use separator::Separator;
 pub use std::alloc::AllocError as OutOfMemory;

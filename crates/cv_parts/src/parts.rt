@@ -2,7 +2,7 @@
 
 ghost use Rattle.std.specs.Prelude.{◌≡◌, ◌≤◌, length, map, IfOk};
 ghost use Rattle.cv_component.specs.TopLevel.{top_length};
-ghost use Rattle.cv_parts.specs.Parts.{separates as separates_at, parts as parts_of, trim as trimmed, has_white_end as is_white_at_end};
+ghost use Rattle.cv_parts.specs.Parts.{separates as separates_at, is_white, is_comma, parts as parts_of, filled as filled_of, trim as trimmed, has_white_end as is_white_at_end};
 
 use crate::separator::{Separator, separates};
 use cv_component::{Nesting, trim_end, trim_front};
@@ -55,6 +55,47 @@ pub fn trim(tokens: &[Token]) -> &[Token]
     ensures trimmed { result.now ≡ trimmed tokens.now }
 {
     trim_end(trim_front(tokens))
+}
+
+/// The parts that aren't empty.
+fn filled<'a>(alloc: Global, parts: &[&'a [Token]]) -> Result<Vec<&'a [Token]>, AllocError>
+    ensures { IfOk result (λ all. map (λ p. p.now) all.items ≡ filled_of (map (λ p. p.now) parts.now)) }
+{
+    let mut all = Vec::new(alloc);
+    for part in parts {
+        if part.is_empty() {
+            continue;
+        }
+        all.push(*part)?;
+    }
+    Ok(all)
+}
+
+/// The parts without whitespace at their ends.
+fn trimmed_parts<'a>(alloc: Global, parts: &[&'a [Token]]) -> Result<Vec<&'a [Token]>, AllocError>
+    ensures { IfOk result (λ all. map (λ p. p.now) all.items ≡ map trimmed (map (λ p. p.now) parts.now)) }
+{
+    let mut all = Vec::new(alloc);
+    for part in parts {
+        all.push(trim(part))?;
+    }
+    Ok(all)
+}
+
+/// The parts of a list between the whitespace at its top level, without empty ones.
+pub fn spaced_parts<'a>(alloc: Global, tokens: &'a [Token]) -> Result<Vec<&'a [Token]>, AllocError>
+    ensures { IfOk result (λ all. map (λ p. p.now) all.items ≡ filled_of (parts_of is_white tokens.now)) }
+{
+    let all = parts(alloc, Separator::White, tokens)?;
+    filled(alloc, all.as_slice())
+}
+
+/// The parts of a list between the commas at its top level, without whitespace at their ends.
+pub fn comma_parts<'a>(alloc: Global, tokens: &'a [Token]) -> Result<Vec<&'a [Token]>, AllocError>
+    ensures { IfOk result (λ all. map (λ p. p.now) all.items ≡ map trimmed (parts_of is_comma tokens.now)) }
+{
+    let all = parts(alloc, Separator::Comma, tokens)?;
+    trimmed_parts(alloc, all.as_slice())
 }
 
 /// Whether the list begins or ends with whitespace.
