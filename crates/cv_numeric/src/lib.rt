@@ -1,7 +1,7 @@
 //! Numeric items: what one numeric token or one math function is as a number, a length or another quantity.
 #![tactic(auto)]
 
-mod calculation;
+mod reading;
 pub mod matched;
 mod numeric;
 pub mod quantity;

@@ -3,7 +3,7 @@
 ghost use Rattle.std.specs.Prelude.{◌≡◌, IfOk};
 ghost use Rattle.cv_numeric.specs.Numeric as numeric;
 
-use crate::calculation::{calculation, is_null};
+use crate::reading::{calculation, is_null};
 use crate::matched::Matched;
 use crate::quantity::{Quantity, Range};
 use cv_calc::{Basis, Calc, Context, Unit};

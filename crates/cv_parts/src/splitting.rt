@@ -42,11 +42,12 @@ pub fn parts<'a>(
     let mut rest = tokens;
     'parts: loop {
         let size = part_length(alloc, separator, rest)?;
-        all.push(&rest[..size])?;
-        if size == rest.len() {
-            return Ok(all);
+        let (part, behind) = rest.split_at(size);
+        all.push(part)?;
+        match behind {
+            [] => return Ok(all),
+            [_, after @ ..] => rest = after,
         }
-        rest = &rest[size + 1..];
     }
 }
 

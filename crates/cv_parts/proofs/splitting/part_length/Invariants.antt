@@ -1,7 +1,7 @@
 use Rattle.std.proofs.Common.{◌≡◌, ◌+◌, length, []}
 use Rattle.cv_component.specs.TopLevel.{top_length_within}
 use Rattle.cv_parts.specs.Parts.{separates}
-use Rattle.cv_parts.proofs.parts.part_length.Given as goal
+use Rattle.cv_parts.proofs.splitting.part_length.Given as goal
 
 abbrev pub invariant-tokens : goal.invariant-tokens
 invariant-tokens l = record {
