@@ -2,7 +2,7 @@
 -- (CSS Values and Units 4, "Mathematical Expressions", "Range Checking"). A number outside the range of its quantity is no match, and
 -- this is told before its unit is resolved; a math function that is one number is clamped instead. A function with a divisor 0 is no
 -- match, which is this project's own.
-use Rattle.std.specs.Prelude.{ℕ, Bool, true, false, ◌&&◌, not, List, [], ◌∷◌, Option, Some, None, Result, Ok, Err, if◌then◌else◌}
+use Rattle.std.specs.Prelude.{ℕ, Bool, true, false, ◌&&◌, not, List, [], ◌∷◌, Option, Some, None, Result, Ok, Err, encode_utf8_all, if◌then◌else◌}
 use Rattle.cv_ratio.specs.Ratio.{Ratio, zero_ratio}
 use Rattle.cv_exact.specs.Zero.{is_zero}
 use Rattle.cv_spec_text.specs.Characters.{hyphen, begins_with}
@@ -44,7 +44,7 @@ is_null n = is_in_range n && is_zero (exact_number n)
 
 -- the number is below 0: it has a minus and isn't 0
 abbrev pub is_negative : List ℕ → Bool
-is_negative n = begins_with hyphen n && not (is_null n)
+is_negative n = begins_with hyphen (encode_utf8_all n) && not (is_null n)
 
 abbrev pub is_within : Range → List ℕ → Bool
 is_within All n = true

@@ -1,6 +1,6 @@
 -- Numeric items (CSS Values and Units 4, "Numeric Data Types" to "Resolution Units"; CSS Properties and Values API 1, "Supported
 -- Names"), with the basis of percentages that each sets. Lengths are in px, angles in deg, times in s, resolutions in dppx.
-use Rattle.std.specs.Prelude.{ℕ, ℤ, Bool, true, false, ◌&&◌, ◌||◌, not, List, [], ◌∷◌, if◌then◌else◌}
+use Rattle.std.specs.Prelude.{ℕ, ℤ, Bool, true, false, ◌&&◌, ◌||◌, not, List, [], ◌∷◌, encode_utf8_all, if◌then◌else◌}
 use Rattle.std.specs.Char.{is_ascii_digit}
 use Rattle.cv_ratio.specs.Ratio.{Ratio, zero_ratio}
 use Rattle.cv_frac.specs.Rounded.{half_up}
@@ -76,9 +76,12 @@ length_percentage r x ts = length_percentage_in r (with_basis basis.Length x) ts
 -- ---- whole numbers
 
 -- the spelling has no point and no exponent: it is made of digits and a sign
+abbrev pub is_digits : List ℕ → Bool
+is_digits [] = true
+is_digits (c ∷ cs) = if is_ascii_digit c || is_sign c then is_digits cs else false
+
 abbrev pub is_whole : List ℕ → Bool
-is_whole [] = true
-is_whole (c ∷ cs) = if is_ascii_digit c || is_sign c then is_whole cs else false
+is_whole n = is_digits (encode_utf8_all n)
 
 abbrev pub whole_number : List ℕ → Matched ℤ
 whole_number n = if is_whole n then (if is_in_range n then Fit (half_up (exact_number n)) else Out) else No

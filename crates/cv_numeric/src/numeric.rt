@@ -3,7 +3,7 @@
 ghost use Rattle.std.specs.Prelude.{◌≡◌, IfOk};
 ghost use Rattle.cv_numeric.specs.Numeric as numeric;
 
-use crate::reading::{calculation, is_null};
+use crate::reading::{bytes_of, calculation, is_null};
 use crate::matched::Matched;
 use crate::quantity::{Quantity, Range};
 use cv_calc::{Basis, Calc, Context, Unit};
@@ -140,14 +140,16 @@ pub fn length_percentage(
     length_percentage_in(alloc, range, tokens, &with_basis(Basis::Length, x))
 }
 
-/// Whether a number has no point and no exponent.
-fn is_whole(spelling: &Name) -> bool
-    ensures { result ≡ numeric.is_whole spelling.now }
+/// Whether a number in bytes has no point and no exponent.
+fn is_digits(text: &[u8]) -> bool
+    ensures { result ≡ numeric.is_digits text.now }
 {
-    spelling
-        .text()
-        .chars()
-        .all(|c| c.is_ascii_digit() || c == '+' || c == '-')
+    for byte in text {
+        if !(byte.is_ascii_digit() || *byte == b'+' || *byte == b'-') {
+            return false;
+        }
+    }
+    true
 }
 
 /// A number token as a whole number.
@@ -155,7 +157,7 @@ fn is_whole(spelling: &Name) -> bool
 fn whole_number(spelling: &Name) -> Matched<i64>
     ensures { result ≡ numeric.whole_number spelling.now }
 {
-    if !is_whole(spelling) {
+    if !is_digits(bytes_of(spelling)) {
         return Matched::No;
     }
     match Frac::read_spelling(spelling) {

@@ -1,6 +1,6 @@
 //! The calculation of one numeric token or one math function.
 
-ghost use Rattle.std.specs.Prelude.{◌≡◌, IfOk, true};
+ghost use Rattle.std.specs.Prelude.{◌≡◌, IfOk, true, encode_utf8_all};
 ghost use Rattle.cv_calc.specs.Linear.{is_linear as is_linear_calc};
 ghost use Rattle.cv_spec_text.specs.Characters.{hyphen, begins_with};
 ghost use Rattle.cv_numeric.specs.Calculations as calculations;
@@ -26,11 +26,18 @@ fn simplified(alloc: Global, c: &Calc, x: &Context) -> Result<Matched<Calc>, All
     }
 }
 
-/// Whether a number has a minus.
-fn has_minus(spelling: &Name) -> bool
-    ensures { result ≡ begins_with hyphen spelling.now }
+/// A spelling in bytes.
+pub(crate) fn bytes_of(spelling: &Name) -> &[u8]
+    ensures { result.now ≡ encode_utf8_all spelling.now }
 {
-    spelling.text().as_bytes().first() == Some(&b'-')
+    spelling.text().as_bytes()
+}
+
+/// Whether a number in bytes has a minus.
+fn has_minus(text: &[u8]) -> bool
+    ensures { result ≡ begins_with hyphen text.now }
+{
+    matches!(text, [b'-', ..])
 }
 
 /// Whether a number is 0.
@@ -50,7 +57,7 @@ fn is_within(range: Range, spelling: &Name) -> bool
 {
     match range {
         Range::All => true,
-        Range::NotNegative => !(has_minus(spelling) && !is_null(spelling)),
+        Range::NotNegative => !(has_minus(bytes_of(spelling)) && !is_null(spelling)),
     }
 }
 
