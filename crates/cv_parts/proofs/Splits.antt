@@ -18,9 +18,9 @@ module _ (ends : Token → Bool) where
   within [] [] = refl
   within (inner ∷ outer) [] = refl
   within [] (t ∷ ts) =
-      elim (ends t) as (λ b. (if b then [] ∷ parts_within ends [] ts else longer t (parts_within ends (nesting_after [] t) ts)) ≡ take (if b then 0 else suc (top_length_within ends (nesting_after [] t) ts)) (t ∷ ts) ∷ behind ends (drop (if b then 0 else suc (top_length_within ends (nesting_after [] t) ts)) (t ∷ ts)))
-      [ true ↦ refl
-      | false ↦ ap (longer t) (within (nesting_after [] t) ts)
+      elim (ends t) as (λ b. (if b then [] ∷ parts_within ends [] ts else longer t (parts_within ends (nesting_after [] t) ts)) ≡ take (if b then 0 else suc (top_length_within ends (nesting_after [] t) ts)) (t ∷ ts) ∷ behind ends (drop (if b then 0 else suc (top_length_within ends (nesting_after [] t) ts)) (t ∷ ts))) [
+        | true ↦ refl
+        | false ↦ ap (longer t) (within (nesting_after [] t) ts)
       ]
   within (inner ∷ outer) (t ∷ ts) = ap (longer t) (within (nesting_after (inner ∷ outer) t) ts)
 

@@ -1,6 +1,6 @@
 -- The parts of a list between the separators at its top level, where no bracket is open (CSS Values and Units 4, "Component Value
 -- Multipliers"; CSS Syntax 3, "Parse a comma-separated list of component values"). Several whitespace tokens count as one.
-use Rattle.std.specs.Prelude.{ℕ, Bool, true, false, ◌==◌, ◌||◌, List, [], ◌∷◌, reverse, if◌then◌else◌}
+use Rattle.std.specs.Prelude.{Bool, true, false, ◌==◌, ◌||◌, List, [], ◌∷◌, reverse, if◌then◌else◌}
 use Rattle.cv_spec_text.specs.Characters.{solidus}
 use Rattle.cv_spec_text.specs.declared.token.Bracket.{Bracket}
 use Rattle.cv_spec_text.specs.declared.token.Token.{Token}

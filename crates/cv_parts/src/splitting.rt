@@ -11,7 +11,11 @@ use std::alloc::{AllocError, Global};
 
 /// How many tokens stand before the first separator at the top level.
 #[tactic(auto, unfolding(cv_component::specs::TopLevel::top_length))]
-pub fn part_length(alloc: Global, separator: Separator, tokens: &[Token]) -> Result<usize, AllocError>
+pub fn part_length(
+    alloc: Global,
+    separator: Separator,
+    tokens: &[Token],
+) -> Result<usize, AllocError>
     ensures size { IfOk result (λ n. n ≡ top_length (separates_at separator) tokens.now) }
     ensures within { IfOk result (λ n. n ≤ length tokens.now) }
 {

@@ -1,7 +1,5 @@
-use Rattle.std.proofs.Common.{◌≡◌, ◌++◌, ◌∷◌, [], ◌-◌, List, length, take, drop, map, sym, ◌∙◌, ap}
+use Rattle.std.proofs.Common.{◌++◌, ◌-◌, length, take, drop, map, sym, ◌∙◌, ap}
 use Rattle.std.proofs.lemmas.List.{map-append}
-use Rattle.cv_spec_text.specs.declared.token.Token.{Token}
-use Rattle.cv_component.specs.TopLevel.{top_length}
 use Rattle.cv_parts.specs.Parts.{separates, parts}
 use Rattle.cv_parts.proofs.Splits.{last_part, further_part}
 use Rattle.cv_parts.proofs.splitting.parts.Goals as goal

@@ -1,4 +1,4 @@
-use Rattle.std.proofs.Common.{◌≡◌, ◌++◌, take, map}
+use Rattle.std.proofs.Common.{◌≡◌, take, map}
 use Rattle.cv_parts.specs.Parts.{trim}
 use Rattle.cv_parts.proofs.splitting.trimmed_parts.Given as goal
 
