@@ -88,6 +88,7 @@ pub fn resolution(alloc: Global, tokens: &[Token], x: &Context) -> Result<Matche
 }
 
 /// A bare number as a length, which is 0.
+#[tactic(auto, unfolding(cv_ratio::specs::Ratio::zero_ratio))]
 fn zero_length(spelling: &Name) -> Matched<Frac>
     ensures { result ≡ numeric.zero_length spelling.now }
 {

@@ -1,8 +1,7 @@
 //! What a numeric item is, and which numbers it may be.
 
-ghost use Rattle.std.specs.Prelude.{◌≡◌};
-ghost use Rattle.std.specs.Ordering.{int_eq};
-ghost use Rattle.cv_calc.specs.Types.{same_powers as same_powers_of, unit_type as type_of_unit};
+ghost use Rattle.std.specs.Prelude.{◌≡◌, Some};
+ghost use Rattle.cv_calc.specs.Types.{if_equal as if_equal_of, same_powers as same_powers_of, unit_type as type_of_unit};
 ghost use Rattle.cv_numeric.specs.Quantities as quantities;
 
 use cv_calc::{Base, Calc, NumType, Unit, type_of};
@@ -27,35 +26,24 @@ pub enum Range {
     NotNegative,
 }
 
-fn same_power(a: i64, b: i64) -> bool
-    ensures { result ≡ int_eq a b }
+/// Another test, where two powers are the same.
+fn if_equal(a: i64, b: i64, rest: bool) -> bool
+    ensures { result ≡ if_equal_of a b rest }
 {
-    a == b
+    if a == b { rest } else { false }
 }
 
 /// Whether two types have the same powers.
 fn same_powers(s: NumType, t: NumType) -> bool
     ensures { result ≡ same_powers_of s t }
 {
-    if !same_power(s.length, t.length) {
-        return false;
-    }
-    if !same_power(s.angle, t.angle) {
-        return false;
-    }
-    if !same_power(s.time, t.time) {
-        return false;
-    }
-    if !same_power(s.frequency, t.frequency) {
-        return false;
-    }
-    if !same_power(s.resolution, t.resolution) {
-        return false;
-    }
-    if !same_power(s.flex, t.flex) {
-        return false;
-    }
-    same_power(s.percent, t.percent)
+    let percent = if_equal(s.percent, t.percent, true);
+    let flex = if_equal(s.flex, t.flex, percent);
+    let resolution = if_equal(s.resolution, t.resolution, flex);
+    let frequency = if_equal(s.frequency, t.frequency, resolution);
+    let time = if_equal(s.time, t.time, frequency);
+    let angle = if_equal(s.angle, t.angle, time);
+    if_equal(s.length, t.length, angle)
 }
 
 /// The type of a number of a unit.

@@ -62,7 +62,7 @@ fn is_within(range: Range, spelling: &Name) -> bool
 }
 
 /// A number of a unit.
-#[tactic(auto, unfolding(cv_calcread::specs::Literals::is_in_range, cv_calcread::specs::Literals::exact_number))]
+#[tactic(auto, using(crate::proofs::Plain::plain_linear), unfolding(cv_calcread::specs::Literals::is_in_range, cv_calcread::specs::Literals::exact_number))]
 fn read(alloc: Global, spelling: &Name, unit: Unit, x: &Context) -> Result<Matched<Calc>, AllocError>
     ensures { IfOk result (λ o. o ≡ calculations.literal x.now spelling.now unit) }
 {
