@@ -12,6 +12,7 @@ fn clamped(most: u32, v: Frac) -> Frac
     v.max(Frac::whole(0)).min(Frac::whole(most))
 }
 
+#[tactic(auto, using(crate::proofs::Bytes::channel_small))]
 fn channel(v: Frac) -> u8
     ensures { result ≡ channel_of v }
 {

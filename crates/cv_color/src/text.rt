@@ -16,7 +16,8 @@ fn separate(tokens: &mut Vec<Token>) -> Result<(), AllocError>
     ensures { OnOk result (tokens.new.items ≡ tokens.old.items ++ separated []) }
 {
     tokens.push(Token::Comma)?;
-    tokens.push(Token::White)
+    tokens.push(Token::White)?;
+    Ok(())
 }
 
 /// Adds a channel.
@@ -24,7 +25,8 @@ fn push_channel(alloc: Global, channel: u8, tokens: &mut Vec<Token>) -> Result<(
     ensures { OnOk result (tokens.new.items ≡ tokens.old.items ++ channel_text channel) }
 {
     let mut buffer = Buffer::new();
-    tokens.push(Token::Number(Name::of(alloc, buffer.format(channel))?))
+    tokens.push(Token::Number(Name::of(alloc, buffer.format(channel))?))?;
+    Ok(())
 }
 
 /// The function of a name, with its channels and without its end.

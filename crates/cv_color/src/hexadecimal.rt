@@ -10,6 +10,7 @@ use crate::color::Color;
 use cv_frac::Frac;
 use cv_spec_text::Name;
 
+#[tactic(auto, using(crate::proofs::Digits::digit_small))]
 fn digit(c: u8) -> u8
     requires { is_hexadecimal c ≡ true }
     ensures value { result ≡ digit_value c }
@@ -24,6 +25,7 @@ fn digit(c: u8) -> u8
     }
 }
 
+#[tactic(auto, using(crate::proofs::Digits::digit_small))]
 fn byte(high: u8, low: u8) -> u8
     requires high { is_hexadecimal high ≡ true }
     requires low { is_hexadecimal low ≡ true }
@@ -51,6 +53,7 @@ fn opaque(r: u8, g: u8, b: u8) -> Option<Color>
 }
 
 /// With the alpha of a byte, which is always a fraction within bounds.
+#[tactic(auto, using(crate::proofs::Alphas::alpha_fits))]
 fn with_alpha(r: u8, g: u8, b: u8, alpha: u8) -> Option<Color>
     ensures { result ≡ Some (Color.Rgb r g b (alpha_of alpha)) }
 {
@@ -61,6 +64,7 @@ fn with_alpha(r: u8, g: u8, b: u8, alpha: u8) -> Option<Color>
 }
 
 /// The colour of some hexadecimal digits.
+#[tactic(auto, using(crate::proofs::Digits::digit_at, crate::proofs::Digits::other_length))]
 fn of_digits(digits: &[u8]) -> Option<Color>
     requires { list_all is_hexadecimal digits.now ≡ true }
     ensures { result ≡ color_of_digits digits.now }
