@@ -80,10 +80,16 @@ fn of_digits(digits: &[u8]) -> Option<Color>
     }
 }
 
+fn are_digits(bytes: &[u8]) -> bool
+    ensures { result ≡ list_all is_hexadecimal bytes.now }
+{
+    bytes.iter().all(|c| c.is_ascii_hexdigit())
+}
+
 fn of_bytes(bytes: &[u8]) -> Option<Color>
     ensures { result ≡ color_of bytes.now }
 {
-    if bytes.iter().all(|c| c.is_ascii_hexdigit()) {
+    if are_digits(bytes) {
         of_digits(bytes)
     } else {
         None

@@ -11,6 +11,14 @@ use cv_spec_text::{Bracket, Name, Token};
 use itoa::Buffer;
 use std::alloc::{AllocError, Global};
 
+/// An ASCII text.
+fn ascii_name(alloc: Global, text: &str) -> Result<Name, AllocError>
+    requires { IsAscii text.now }
+    ensures { IfOk result (λ name. name ≡ text.now) }
+{
+    Name::of(alloc, text)
+}
+
 /// Adds a comma and a space.
 fn separate(tokens: &mut Vec<Token>) -> Result<(), AllocError>
     ensures { OnOk result (tokens.new.items ≡ tokens.old.items ++ separated []) }
@@ -25,7 +33,7 @@ fn push_channel(alloc: Global, channel: u8, tokens: &mut Vec<Token>) -> Result<(
     ensures { OnOk result (tokens.new.items ≡ tokens.old.items ++ channel_text channel) }
 {
     let mut buffer = Buffer::new();
-    tokens.push(Token::Number(Name::of(alloc, buffer.format(channel))?))?;
+    tokens.push(Token::Number(ascii_name(alloc, buffer.format(channel))?))?;
     Ok(())
 }
 
@@ -35,7 +43,7 @@ fn opened(alloc: Global, name: &str, r: u8, g: u8, b: u8) -> Result<Vec<Token>, 
     ensures { IfOk result (λ ts. ts.items ≡ Token.Function name.now ∷ channels_text r g b) }
 {
     let mut tokens = Vec::new(alloc);
-    tokens.push(Token::Function(Name::of(alloc, name)?))?;
+    tokens.push(Token::Function(ascii_name(alloc, name)?))?;
     push_channel(alloc, r, &mut tokens)?;
     separate(&mut tokens)?;
     push_channel(alloc, g, &mut tokens)?;
@@ -69,7 +77,7 @@ fn current_tokens(alloc: Global) -> Result<Vec<Token>, AllocError>
     ensures { IfOk result (λ ts. ts.items ≡ Token.Ident (codes "currentcolor") ∷ []) }
 {
     let mut tokens = Vec::new(alloc);
-    tokens.push(Token::Ident(Name::of(alloc, "currentcolor")?))?;
+    tokens.push(Token::Ident(ascii_name(alloc, "currentcolor")?))?;
     Ok(tokens)
 }
 
