@@ -1,17 +1,17 @@
 //! Colours by name, by hexadecimal digits and by channels, and their text.
 #![tactic(auto)]
 
-pub mod channels;
+mod channels;
 pub mod color;
-pub mod hex;
-pub mod names;
+mod hexadecimal;
+mod names;
 #[cfg(test)]
 mod tests;
-pub mod text;
+mod text;
 
 pub use channels::from_channels;
 pub use color::Color;
-pub use hex::hex;
+pub use hexadecimal::hex;
 pub use names::named;
 pub use std::alloc::AllocError as OutOfMemory;
 pub use text::color_tokens;
