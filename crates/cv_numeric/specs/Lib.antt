@@ -2,3 +2,4 @@ pub mod Matched
 pub mod Quantities
 pub mod Calculations
 pub mod Numeric
+pub mod Alike

@@ -2,10 +2,12 @@
 #![tactic(auto)]
 
 mod reading;
+mod laws;
 pub mod matched;
 mod numeric;
 pub mod quantity;
 
+pub use laws::mismatch_is_alike;
 pub use matched::Matched;
 pub use numeric::{
     angle, integer, length, length_percentage, length_percentage_in, number, percentage, resolution,

@@ -47,7 +47,7 @@ fn same_powers(s: NumType, t: NumType) -> bool
 }
 
 /// The type of a number of a unit.
-#[tactic(auto, unfolding(cv_calc::specs::Types::type_of))]
+#[tactic(auto, using(crate::proofs::Plain::plain_type))]
 fn unit_type(unit: Unit) -> Option<NumType>
     ensures { result ≡ Some (type_of_unit unit) }
 {

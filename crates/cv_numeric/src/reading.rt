@@ -13,6 +13,7 @@ use cv_frac::Frac;
 use cv_simplify::{SimpErr, simplify};
 use cv_spec_text::{Name, Token};
 use std::alloc::{AllocError, Global};
+use std::slice;
 
 /// The simplified form of a linear calculation, where it is in range.
 fn simplified(alloc: Global, c: &Calc, x: &Context) -> Result<Matched<Calc>, AllocError>
@@ -156,7 +157,29 @@ fn function(
     }
 }
 
+/// One token.
+fn alone(
+    alloc: Global,
+    quantity: Quantity,
+    range: Range,
+    token: &Token,
+    x: &Context,
+) -> Result<Matched<Calc>, AllocError>
+    ensures { IfOk result (λ o. o ≡ calculations.alone quantity range x.now token.now) }
+{
+    match token {
+        Token::Number(n) => plain(alloc, quantity, range, n, Unit::Number, x),
+        Token::Percentage(n) => plain(alloc, quantity, range, n, Unit::Percent, x),
+        Token::Dimension(n, name) => match unit_named(name) {
+            Some(unit) => plain(alloc, quantity, range, n, unit, x),
+            None => Ok(Matched::No),
+        },
+        _ => function(alloc, quantity, range, slice::from_ref(token), x),
+    }
+}
+
 /// The simplified calculation of a list that is one numeric token or one math function.
+#[tactic(auto, unfolding(crate::specs::Calculations::calculation))]
 pub(crate) fn calculation(
     alloc: Global,
     quantity: Quantity,
@@ -167,12 +190,7 @@ pub(crate) fn calculation(
     ensures { IfOk result (λ o. o ≡ calculations.calculation quantity range x.now tokens.now) }
 {
     match tokens {
-        [Token::Number(n)] => plain(alloc, quantity, range, n, Unit::Number, x),
-        [Token::Percentage(n)] => plain(alloc, quantity, range, n, Unit::Percent, x),
-        [Token::Dimension(n, name)] => match unit_named(name) {
-            Some(unit) => plain(alloc, quantity, range, n, unit, x),
-            None => Ok(Matched::No),
-        },
+        [token] => alone(alloc, quantity, range, token, x),
         _ => function(alloc, quantity, range, tokens, x),
     }
 }
