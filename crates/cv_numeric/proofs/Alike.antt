@@ -1,7 +1,6 @@
 -- Matches that are none together.
 use Rattle.std.proofs.Common.{ℕ, Bool, true, false, List, [], ◌∷◌, Option, Some, None}
-use Rattle.std.specs.Prelude.{◌&&◌, Result, Ok, Err, ℤ, if◌then◌else◌}
-use Rattle.cv_ratio.specs.Ratio.{Ratio}
+use Rattle.std.specs.Prelude.{◌&&◌, Result, Ok, Err, if◌then◌else◌}
 use Rattle.cv_frac.specs.Rounded.{half_up}
 use Rattle.cv_spec_text.specs.declared.token.Token.{Token}
 use Rattle.cv_spec_text.specs.declared.token.Token.TheVariants.{Number, Percentage, Dimension}
@@ -27,7 +26,7 @@ use Rattle.cv_numeric.specs.declared.quantity.Range.{Range}
 use Rattle.cv_numeric.specs.declared.quantity.Range.TheVariants.{All, NotNegative}
 use Rattle.cv_numeric.specs.Matched.{mapped, IsAlike}
 use Rattle.cv_numeric.specs.Quantities.{takes}
-use Rattle.cv_numeric.specs.Calculations.{simplified, is_within, literal, plain, plain_of, clamped_calc, takes_calc, taken, read_as, function, alone, calculation}
+use Rattle.cv_numeric.specs.Calculations.{simplified, is_within, literal, plain, plain_of, clamped_calc, takes_calc, read_as, function, alone, calculation}
 use Rattle.cv_numeric.specs.Numeric.{with_basis, value_of, measured, zero_length, length, length_percentage_in, whole_number, integer}
 use Rattle.cv_numeric.specs.Alike.{IsMismatchAlike}
 

@@ -6,7 +6,7 @@ use Rattle.cv_calc.specs.declared.unit.Unit.{Unit}
 use Rattle.cv_calc.specs.declared.calc.Calc.TheVariants.{Num}
 use Rattle.cv_calc.specs.Tree.{fold-Num}
 use Rattle.cv_calc.specs.Types.{unit_type, type_step, type_of}
-use Rattle.cv_calc.specs.Linear.{has_type, shape_step, shape, is_linear}
+use Rattle.cv_calc.specs.Linear.{shape_step, shape, is_linear}
 
 pub plain_linear : (v : Ratio) (u : Unit) → is_linear (Num v u) ≡ true
 unfolding is_linear shape

@@ -2,8 +2,7 @@
 -- (CSS Values and Units 4, "Mathematical Expressions", "Range Checking"). A number outside the range of its quantity is no match, and
 -- this is told before its unit is resolved; a math function that is one number is clamped instead. A function with a divisor 0 is no
 -- match, which is this project's own.
-use Rattle.std.specs.Prelude.{ℕ, Bool, true, false, ◌&&◌, not, List, [], ◌∷◌, Option, Some, None, Result, Ok, Err, encode_utf8_all, if◌then◌else◌}
-use Rattle.cv_ratio.specs.Ratio.{Ratio, zero_ratio}
+use Rattle.std.specs.Prelude.{ℕ, Bool, true, ◌&&◌, not, List, [], ◌∷◌, Option, Some, None, Result, Ok, Err, encode_utf8_all, if◌then◌else◌}
 use Rattle.cv_exact.specs.Zero.{is_zero}
 use Rattle.cv_spec_text.specs.Characters.{hyphen, begins_with}
 use Rattle.cv_spec_text.specs.declared.token.Token.{Token}
@@ -19,7 +18,7 @@ use Rattle.cv_calc.specs.Names.{unit_with_name}
 use Rattle.cv_calc.specs.Types.{unit_type, type_of}
 use Rattle.cv_calc.specs.Linear.{is_linear}
 use Rattle.cv_calcread.specs.declared.error.CalcErr.{CalcErr}
-use Rattle.cv_calcread.specs.declared.error.CalcErr.TheVariants.{NoCalc, NoType, Range as WideRange, DivZero, Memory}
+use Rattle.cv_calcread.specs.declared.error.CalcErr.TheVariants.{Range as WideRange}
 use Rattle.cv_calcread.specs.Literals.{exact_number, is_in_range}
 use Rattle.cv_calcread.specs.Answer.{answer}
 use Rattle.cv_simplify.specs.Simplified.{simp}

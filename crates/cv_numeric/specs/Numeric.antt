@@ -1,6 +1,6 @@
 -- Numeric items (CSS Values and Units 4, "Numeric Data Types" to "Resolution Units"; CSS Properties and Values API 1, "Supported
 -- Names"), with the basis of percentages that each sets. Lengths are in px, angles in deg, times in s, resolutions in dppx.
-use Rattle.std.specs.Prelude.{ℕ, ℤ, Bool, true, false, ◌&&◌, ◌||◌, not, List, [], ◌∷◌, encode_utf8_all, if◌then◌else◌}
+use Rattle.std.specs.Prelude.{ℕ, ℤ, Bool, true, false, ◌||◌, List, [], ◌∷◌, encode_utf8_all, if◌then◌else◌}
 use Rattle.std.specs.Char.{is_ascii_digit}
 use Rattle.cv_ratio.specs.Ratio.{Ratio, zero_ratio}
 use Rattle.cv_frac.specs.Rounded.{half_up}

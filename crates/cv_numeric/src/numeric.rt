@@ -3,9 +3,9 @@
 ghost use Rattle.std.specs.Prelude.{◌≡◌, IfOk};
 ghost use Rattle.cv_numeric.specs.Numeric as numeric;
 
-use crate::reading::{bytes_of, calculation, is_null};
 use crate::matched::Matched;
 use crate::quantity::{Quantity, Range};
+use crate::reading::{bytes_of, calculation, is_null};
 use cv_calc::{Basis, Calc, Context, Unit};
 use cv_frac::Frac;
 use cv_spec_text::{Name, Token};
@@ -53,7 +53,12 @@ fn measured(
 }
 
 /// A number, as `1.5` or `calc(1 / 3)`, within a range (CSS Values and Units 4, "Real Numbers").
-pub fn number(alloc: Global, range: Range, tokens: &[Token], x: &Context) -> Result<Matched<Frac>, AllocError>
+pub fn number(
+    alloc: Global,
+    range: Range,
+    tokens: &[Token],
+    x: &Context,
+) -> Result<Matched<Frac>, AllocError>
     ensures { IfOk result (λ o. o ≡ numeric.number range x.now tokens.now) }
 {
     measured(alloc, Quantity::Number, range, tokens, x)

@@ -64,7 +64,12 @@ fn is_within(range: Range, spelling: &Name) -> bool
 
 /// A number of a unit.
 #[tactic(auto, using(crate::proofs::Plain::plain_linear), unfolding(cv_calcread::specs::Literals::is_in_range, cv_calcread::specs::Literals::exact_number))]
-fn read(alloc: Global, spelling: &Name, unit: Unit, x: &Context) -> Result<Matched<Calc>, AllocError>
+fn read(
+    alloc: Global,
+    spelling: &Name,
+    unit: Unit,
+    x: &Context,
+) -> Result<Matched<Calc>, AllocError>
     ensures { IfOk result (λ o. o ≡ calculations.literal x.now spelling.now unit) }
 {
     match Frac::read_spelling(spelling) {
