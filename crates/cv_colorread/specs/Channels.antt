@@ -11,6 +11,8 @@ use Rattle.cv_numeric.specs.declared.quantity.Range.TheVariants.{All}
 use Rattle.cv_numeric.specs.Matched.{or_else}
 use Rattle.cv_numeric.specs.Numeric.{number, percentage}
 use Rattle.cv_colorread.specs.declared.channels.Channels.{Channels}
+use Rattle.cv_colorread.specs.declared.channels.Form.{Form}
+use Rattle.cv_colorread.specs.declared.channels.Form.TheVariants.{Number, Percentage, Either}
 
 -- so many hundredths of a fraction
 abbrev pub hundredths : ℕ → Ratio → Ratio
@@ -34,6 +36,12 @@ by_percentage whole x ts = part_of whole (percentage x ts)
 
 abbrev pub by_either : ℕ → Context → List Token → Matched Ratio
 by_either whole x ts = or_else (by_number x ts) (by_percentage whole x ts)
+
+-- a channel in a form
+abbrev pub read_as : Form → Context → List Token → Matched Ratio
+read_as Number x ts = by_number x ts
+read_as Percentage x ts = by_percentage 255 x ts
+read_as Either x ts = by_either 255 x ts
 
 -- ---- red, green and blue
 

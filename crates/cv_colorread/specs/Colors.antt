@@ -16,7 +16,8 @@ use Rattle.cv_color.specs.Names.{named}
 use Rattle.cv_color.specs.Hex.{hex}
 use Rattle.cv_color.specs.Channels.{from_channels}
 use Rattle.cv_colorread.specs.declared.channels.Channels.{Channels}
-use Rattle.cv_colorread.specs.Channels.{by_number, by_percentage, by_either, three}
+use Rattle.cv_colorread.specs.declared.channels.Form.TheVariants.{Number, Percentage, Either}
+use Rattle.cv_colorread.specs.Channels.{by_either, read_as, three}
 
 -- ---- the arguments of a colour function
 
@@ -35,11 +36,11 @@ alpha x ts = by_either 1 x ts
 
 -- three numbers, or three percentages
 abbrev pub alike : Context → List (List Token) → Matched Channels
-alike x channels = or_else (three (by_number x) channels) (three (by_percentage 255 x) channels)
+alike x channels = or_else (three (read_as Number x) channels) (three (read_as Percentage x) channels)
 
 -- three numbers or percentages, between whitespace
 abbrev pub mixed : Context → List Token → Matched Channels
-mixed x ts = three (by_either 255 x) (filled (parts is_white ts))
+mixed x ts = three (read_as Either x) (filled (parts is_white ts))
 
 -- with commas, the legacy syntax: channels that are alike, and maybe an alpha
 abbrev pub legacy : Context → List (List Token) → Matched Color
@@ -73,6 +74,10 @@ abbrev pub arguments_in : Context → Option (List Token) → Matched Color
 arguments_in x None = No
 arguments_in x (Some ts) = arguments x ts
 
+-- a list that begins with a function of this name
+abbrev pub function : Context → List ℕ → List Token → Matched Color
+function x name ts = if is_rgb name then arguments_in x (inside ts) else No
+
 -- ---- a colour
 
 abbrev pub fitting : Option Color → Matched Color
@@ -82,5 +87,5 @@ fitting (Some c) = Fit c
 unfoldable pub color : Context → List Token → Matched Color
 color x (Ident name ∷ []) = fitting (named name)
 color x (Hash digits id ∷ []) = fitting (hex digits)
-color x (Function name ∷ ts) = if is_rgb name then arguments_in x (inside (Function name ∷ ts)) else No
+color x (Function name ∷ ts) = function x name (Function name ∷ ts)
 color x _ = No
