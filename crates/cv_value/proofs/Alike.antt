@@ -12,6 +12,7 @@ use Rattle.cv_numeric.specs.Matched.{mapped}
 use Rattle.cv_numeric.specs.Numeric as numeric
 use Rattle.cv_numeric.specs.Alike.{IsMismatchAlike as IsNumericAlike}
 use Rattle.cv_colorread.specs.Colors.{color}
+use Rattle.cv_colorread.specs.Alike.{IsMismatchAlike as IsColorAlike}
 use Rattle.cv_syntax.specs.declared.syntax.Kind.{Kind}
 use Rattle.cv_syntax.specs.declared.syntax.Kind.TheVariants as kinds
 use Rattle.cv_syntax.specs.declared.syntax.Many.{Many}
@@ -26,15 +27,14 @@ use Rattle.cv_value.specs.Items.{mixed_item, item}
 use Rattle.cv_value.specs.Matching.{each, listed, as_many, component, components, of_syntax, matching}
 use Rattle.cv_value.specs.Alike.{IsMismatchAlike}
 use Rattle.cv_value.proofs.NoMatch.{is_no, same_no, alike_no, mapped_alike, if_alike, all_alike, first_alike}
-use Rattle.cv_value.proofs.ColorAlike.{color_alike}
 
-module _ (numbers : IsNumericAlike) (x y : Context) where
+module _ (numbers : IsNumericAlike) (colors : IsColorAlike) (x y : Context) where
   item_alike : (k : Kind) (ts : List Token) → is_no (item k x ts) ≡ is_no (item k y ts)
   item_alike kinds.Length ts = mapped_alike item_of.Length (numeric.length x ts) (numeric.length y ts) (same_no (numeric.length x ts) (numeric.length y ts) (numbers.length_is x y ts))
   item_alike kinds.Number ts = mapped_alike item_of.Number (numeric.number All x ts) (numeric.number All y ts) (same_no (numeric.number All x ts) (numeric.number All y ts) (numbers.number_is All x y ts))
   item_alike kinds.Percentage ts = mapped_alike item_of.Percentage (numeric.percentage x ts) (numeric.percentage y ts) (same_no (numeric.percentage x ts) (numeric.percentage y ts) (numbers.percentage_is x y ts))
   item_alike kinds.LengthPercentage ts = mapped_alike mixed_item (numeric.length_percentage All x ts) (numeric.length_percentage All y ts) (same_no (numeric.length_percentage All x ts) (numeric.length_percentage All y ts) (numbers.length_percentage_is All x y ts))
-  item_alike kinds.Color ts = mapped_alike item_of.Color (color x ts) (color y ts) (color_alike numbers x y ts)
+  item_alike kinds.Color ts = mapped_alike item_of.Color (color x ts) (color y ts) (same_no (color x ts) (color y ts) (colors x y ts))
   item_alike kinds.Url ts = refl
   item_alike kinds.Integer ts = mapped_alike item_of.Integer (numeric.integer x ts) (numeric.integer y ts) (same_no (numeric.integer x ts) (numeric.integer y ts) (numbers.integer_is x y ts))
   item_alike kinds.Angle ts = mapped_alike item_of.Angle (numeric.angle x ts) (numeric.angle y ts) (same_no (numeric.angle x ts) (numeric.angle y ts) (numbers.angle_is x y ts))
@@ -71,10 +71,9 @@ module _ (numbers : IsNumericAlike) (x y : Context) where
   unfolding matching
   matching_alike s ts = if_alike (nat_lt 128 (depth ts)) No No (of_syntax s x ts) (of_syntax s y ts) refl (syntax_alike s ts)
 
-pub alike : IsNumericAlike → IsMismatchAlike
-alike numbers = record {
-  color_is = λ x y ts. alike_no (color x ts) (color y ts) (color_alike numbers x y ts);
-  item_is = λ k x y ts. alike_no (item k x ts) (item k y ts) (item_alike numbers x y k ts);
-  component_is = λ c x y ts. alike_no (component x ts c) (component y ts c) (component_alike numbers x y ts c);
-  matching_is = λ s x y ts. alike_no (matching s x ts) (matching s y ts) (matching_alike numbers x y s ts);
+pub alike : IsNumericAlike → IsColorAlike → IsMismatchAlike
+alike numbers colors = record {
+  item_is = λ k x y ts. alike_no (item k x ts) (item k y ts) (item_alike numbers colors x y k ts);
+  component_is = λ c x y ts. alike_no (component x ts c) (component y ts c) (component_alike numbers colors x y ts c);
+  matching_is = λ s x y ts. alike_no (matching s x ts) (matching s y ts) (matching_alike numbers colors x y s ts);
 }

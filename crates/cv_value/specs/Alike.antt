@@ -3,7 +3,6 @@ use Rattle.std.specs.Prelude.{List}
 use Rattle.cv_spec_text.specs.declared.token.Token.{Token}
 use Rattle.cv_calc.specs.declared.context.Context.{Context}
 use Rattle.cv_numeric.specs.Matched.{IsAlike}
-use Rattle.cv_colorread.specs.Colors.{color}
 use Rattle.cv_syntax.specs.declared.syntax.Kind.{Kind}
 use Rattle.cv_syntax.specs.declared.syntax.Component.{Component}
 use Rattle.cv_syntax.specs.declared.syntax.Syntax.{Syntax}
@@ -11,7 +10,6 @@ use Rattle.cv_value.specs.Items.{item}
 use Rattle.cv_value.specs.Matching.{component, matching}
 
 pub record IsMismatchAlike : Type 0 where
-  pub color_is : (x y : Context) (ts : List Token) → IsAlike (color x ts) (color y ts)
   pub item_is : (k : Kind) (x y : Context) (ts : List Token) → IsAlike (item k x ts) (item k y ts)
   pub component_is : (c : Component) (x y : Context) (ts : List Token) → IsAlike (component x ts c) (component y ts c)
   pub matching_is : (s : Syntax) (x y : Context) (ts : List Token) → IsAlike (matching s x ts) (matching s y ts)
