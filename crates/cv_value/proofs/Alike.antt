@@ -1,14 +1,12 @@
 -- Whether a list is no match doesn't depend on the context.
-use Rattle.std.proofs.Common.{◌≡◌, ℕ, Bool, true, false, List, [], ◌∷◌, map, refl}
-use Rattle.std.specs.Prelude.{nat_lt, if◌then◌else◌}
+use Rattle.std.proofs.Common.{◌≡◌, List, [], ◌∷◌, map, refl}
+use Rattle.std.specs.Prelude.{nat_lt}
 use Rattle.cv_spec_text.specs.declared.token.Token.{Token}
 use Rattle.cv_component.specs.Nesting.{depth}
 use Rattle.cv_parts.specs.Parts.{is_white, is_comma, parts, filled, trim, has_white_end}
 use Rattle.cv_calc.specs.declared.context.Context.{Context}
-use Rattle.cv_numeric.specs.declared.matched.Matched.{Matched}
-use Rattle.cv_numeric.specs.declared.matched.Matched.TheVariants.{No, Out, Fit}
+use Rattle.cv_numeric.specs.declared.matched.Matched.TheVariants.{No}
 use Rattle.cv_numeric.specs.declared.quantity.Range.TheVariants.{All}
-use Rattle.cv_numeric.specs.Matched.{mapped}
 use Rattle.cv_numeric.specs.Numeric as numeric
 use Rattle.cv_numeric.specs.Alike.{IsMismatchAlike as IsNumericAlike}
 use Rattle.cv_colorread.specs.Colors.{color}
@@ -20,11 +18,10 @@ use Rattle.cv_syntax.specs.declared.syntax.Many.TheVariants.{One, Spaces, Commas
 use Rattle.cv_syntax.specs.declared.syntax.Component.{Component}
 use Rattle.cv_syntax.specs.declared.syntax.Syntax.{Syntax}
 use Rattle.cv_syntax.specs.declared.syntax.Syntax.TheVariants.{Any, Of}
-use Rattle.cv_value.specs.declared.typed.Item.{Item}
 use Rattle.cv_value.specs.declared.typed.Item.TheVariants as item_of
 use Rattle.cv_value.specs.declared.typed.Typed.TheVariants as typed
 use Rattle.cv_value.specs.Items.{mixed_item, item}
-use Rattle.cv_value.specs.Matching.{each, listed, as_many, component, components, of_syntax, matching}
+use Rattle.cv_value.specs.Matching.{each, listed, as_many, component, of_syntax, matching}
 use Rattle.cv_value.specs.Alike.{IsMismatchAlike}
 use Rattle.cv_value.proofs.NoMatch.{is_no, same_no, alike_no, mapped_alike, if_alike, all_alike, first_alike}
 

@@ -1,5 +1,5 @@
 -- What a list is as one item of a kind (Properties and Values API 1, "Supported Names", "Calculation of Computed Values").
-use Rattle.std.specs.Prelude.{ℕ, ℤ, Bool, true, false, ◌||◌, bytes_eq, codes, List, [], ◌∷◌, if◌then◌else◌}
+use Rattle.std.specs.Prelude.{ℕ, Bool, true, false, ◌||◌, bytes_eq, codes, List, [], ◌∷◌, if◌then◌else◌}
 use Rattle.cv_ratio.specs.Ratio.{Ratio}
 use Rattle.cv_spec_text.specs.Keywords.{is_word, is_css_wide_keyword}
 use Rattle.cv_spec_text.specs.declared.token.Bracket.TheVariants.{Round}
@@ -14,7 +14,7 @@ use Rattle.cv_calc.specs.declared.calc.Calc.TheVariants as tree
 use Rattle.cv_calc.specs.declared.calc.Calc.TheOpen as layer
 use Rattle.cv_calc.specs.declared.calc.Calc.TheViews.{out-Calc}
 use Rattle.cv_numeric.specs.declared.matched.Matched.{Matched}
-use Rattle.cv_numeric.specs.declared.matched.Matched.TheVariants.{No, Out, Fit}
+use Rattle.cv_numeric.specs.declared.matched.Matched.TheVariants.{No, Fit}
 use Rattle.cv_numeric.specs.declared.quantity.Range.TheVariants.{All}
 use Rattle.cv_numeric.specs.Matched.{mapped}
 use Rattle.cv_numeric.specs.Numeric as numeric

@@ -1,13 +1,13 @@
 -- How a list matches a syntax: by the first component that it matches (Properties and Values API 1, "Syntax Strings", "Calculation of
 -- Computed Values"). A list that is nested deeper than 128 matches none, and a match that is out of range ends the search, which are
 -- this project's own.
-use Rattle.std.specs.Prelude.{ℕ, Bool, nat_lt, List, [], ◌∷◌, map, if◌then◌else◌}
+use Rattle.std.specs.Prelude.{nat_lt, List, [], ◌∷◌, map, if◌then◌else◌}
 use Rattle.cv_spec_text.specs.declared.token.Token.{Token}
 use Rattle.cv_component.specs.Nesting.{depth}
 use Rattle.cv_parts.specs.Parts.{is_white, is_comma, parts, filled, trim, has_white_end}
 use Rattle.cv_calc.specs.declared.context.Context.{Context}
 use Rattle.cv_numeric.specs.declared.matched.Matched.{Matched}
-use Rattle.cv_numeric.specs.declared.matched.Matched.TheVariants.{No, Out, Fit}
+use Rattle.cv_numeric.specs.declared.matched.Matched.TheVariants.{No}
 use Rattle.cv_numeric.specs.Matched.{mapped, all_of, first_of}
 use Rattle.cv_syntax.specs.declared.syntax.Kind.{Kind}
 use Rattle.cv_syntax.specs.declared.syntax.Many.{Many}

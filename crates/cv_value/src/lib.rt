@@ -1,12 +1,12 @@
 //! Typed values: how a list matches a syntax, and how a typed value is written.
 #![tactic(auto)]
 
-mod many;
 pub mod error;
-mod single;
 mod laws;
 mod list;
+mod many;
 mod matching;
+mod single;
 mod text;
 pub mod typed;
 

@@ -16,7 +16,10 @@ use sqlite_items::Items;
 use std::alloc::{AllocError, Global};
 
 /// The items so far, and one more.
-fn with_item(all: Matched<Items<Item>>, next: Matched<Item>) -> Result<Matched<Items<Item>>, AllocError>
+fn with_item(
+    all: Matched<Items<Item>>,
+    next: Matched<Item>,
+) -> Result<Matched<Items<Item>>, AllocError>
     ensures { IfOk result (λ o. o ≡ both (λ is i. is ++ i ∷ []) all next) }
 {
     match (all, next) {

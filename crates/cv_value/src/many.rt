@@ -3,8 +3,8 @@
 ghost use Rattle.std.specs.Prelude.{◌≡◌, IfOk};
 ghost use Rattle.cv_value.specs.Matching as matching;
 
-use crate::single::item;
 use crate::list::{spaced, with_commas};
+use crate::single::item;
 use crate::typed::Typed;
 use cv_calc::Context;
 use cv_numeric::Matched;

@@ -4,8 +4,8 @@ ghost use Rattle.std.specs.Prelude.{◌≡◌, All, IfOk, Err};
 ghost use Rattle.cv_spec_text.specs.Splits.{IsSpelt};
 ghost use Rattle.cv_value.specs.Matching as matching;
 
-use crate::many::component;
 use crate::error::ValueErr;
+use crate::many::component;
 use crate::typed::Typed;
 use cv_calc::Context;
 use cv_component::is_too_deep;
@@ -59,7 +59,12 @@ fn matched(
 ///
 /// `Mismatch` where the list matches no component; `Range` where it matches one, but a number in it or in its calculations is out of
 /// range; `Memory`.
-pub fn match_syntax(alloc: Global, syntax: &Syntax, tokens: &[Token], x: &Context) -> Result<Typed, ValueErr>
+pub fn match_syntax(
+    alloc: Global,
+    syntax: &Syntax,
+    tokens: &[Token],
+    x: &Context,
+) -> Result<Typed, ValueErr>
     requires typed { syntax.now ≡ Syntax.Any → ⊥ }
     requires spelt { All IsSpelt tokens.now }
     ensures ok { IfOk result (λ v. matching.matching syntax.now x.now tokens.now ≡ Matched.Fit v) }

@@ -1,4 +1,4 @@
-use Rattle.std.proofs.Common.{◌≡◌, ◌++◌, [], map, drop}
+use Rattle.std.proofs.Common.{◌≡◌, ◌++◌, map, drop}
 use Rattle.cv_numeric.specs.Matched.{both, all_of}
 use Rattle.cv_value.specs.Items.{item}
 use Rattle.cv_value.proofs.list.each.Given as goal
