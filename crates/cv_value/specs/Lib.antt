@@ -1,0 +1,4 @@
+pub mod Items
+pub mod Matching
+pub mod Text
+pub mod Alike
