@@ -189,7 +189,7 @@ one_bottom (suc (suc n)) h e = absurd (other (suc (suc n)) (omega arith) e)
 divides : (b n : ℕ) → has_places b n ≡ true → 10 ^ n % b ≡ 0
 divides b n e = grind (arith, nat_tests)
 
-whole_spelt : (top : ℤ) (v : Ratio) → unsigned_abs top < 2 ^ 63 → ratio top 1 ≡ v → Spells (signed_decimal top) v
+pub whole_spelt : (top : ℤ) (v : Ratio) → unsigned_abs top < 2 ^ 63 → ratio top 1 ≡ v → Spells (signed_decimal top) v
 whole_spelt (pos m) v small is =
     let fits : m < 2 ^ 64 = omega (arith, small) in
     spells_plain (decimal m) (decimal m) 0 v (unsigned_whole (decimal m) (decimal_nonempty m fits) (decimal_digits m fits)) (few m small)

@@ -12,7 +12,7 @@ use Rattle.cv_calc.specs.declared.context.Basis.{Basis}
 use Rattle.cv_calc.specs.declared.context.Basis.TheVariants.{Length, Of}
 use Rattle.cv_calc.specs.declared.context.Context.{Context}
 use Rattle.cv_calc.specs.declared.calc.Calc.{Calc}
-use Rattle.cv_calc.specs.declared.calc.Calc.TheVariants as tree
+use Rattle.cv_calc.specs.declared.calc.Calc.TheVariants.{Num}
 use Rattle.cv_calc.specs.Types.{unit_type, type_of}
 use Rattle.cv_calc.specs.Linear.{is_linear}
 use Rattle.cv_calc.specs.Value.{Meaning, value}
@@ -44,7 +44,7 @@ pub record ReadsAsNumber (v : Ratio) (u : units.Unit) (ts : List Token) : Type 0
   pub linear : is_linear tree ≡ true
   pub typed : type_of tree ≡ Some (unit_type u)
   pub in_range : (y : Context) → Keeps u y.basis → is_in_range y tree ≡ true
-  pub simple : (y : Context) → Keeps u y.basis → simp y tree ≡ tree.Num v u
+  pub simple : (y : Context) → Keeps u y.basis → simp y tree ≡ Num v u
 
 -- the text of a number alone is one token that means it, or a calculation that simplifies to it
 pub data NumberReadsBack (v : Ratio) (u : units.Unit) (ts : List Token) : Type 0 where
@@ -84,7 +84,7 @@ pub record ReadsAsEqual (s : Calc) (ts : List Token) : Type 0 where
 
 -- the text of a calculation is one token that means the number that it is, or a calculation that equals it
 pub data ReadsBack (s : Calc) (ts : List Token) : Type 0 where
-  number : (v : Ratio) (u : units.Unit) → s ≡ tree.Num v u → IsNumeral v u ts → ReadsBack s ts
+  number : (v : Ratio) (u : units.Unit) → s ≡ Num v u → IsNumeral v u ts → ReadsBack s ts
   calculation : ReadsAsEqual s ts → ReadsBack s ts
 
 pub record CalculationsReadBack : Type 0 where
