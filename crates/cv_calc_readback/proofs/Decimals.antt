@@ -162,7 +162,7 @@ whole_size s b n small some few large = go (cases n few)
 
 -- ---- the text of a fraction
 
-small_numbers : (v : Ratio) → in_bounds v ≡ true → (unsigned_abs v.top < 2 ^ 63) × (v.bottom < 2 ^ 63)
+pub small_numbers : (v : Ratio) → in_bounds v ≡ true → (unsigned_abs v.top < 2 ^ 63) × (v.bottom < 2 ^ 63)
 small_numbers v h = let p = and_true (nat_lt (unsigned_abs v.top) (2 ^ 63)) (nat_lt v.bottom (2 ^ 63)) h in (below (unsigned_abs v.top) p.0, below v.bottom p.1)
   where
     below : (m : ℕ) → nat_lt m (2 ^ 63) ≡ true → m < 2 ^ 63

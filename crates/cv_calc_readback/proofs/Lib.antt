@@ -1,8 +1,11 @@
 pub mod Answered
 pub mod Decimals
 pub mod Digits
+pub mod Equations
 pub mod Heads
 pub mod Known
 pub mod Mixed
+pub mod Numbers
 pub mod Numerals
+pub mod Quotients
 pub mod Ranks
