@@ -4,8 +4,11 @@ pub mod Digits
 pub mod Equations
 pub mod Heads
 pub mod Known
+pub mod Lines
 pub mod Mixed
 pub mod Numbers
 pub mod Numerals
 pub mod Quotients
 pub mod Ranks
+pub mod Sums
+pub mod Terms
