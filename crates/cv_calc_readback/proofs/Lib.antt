@@ -1,4 +1,6 @@
 pub mod Answered
+pub mod Choices
+pub mod Composites
 pub mod Decimals
 pub mod Digits
 pub mod Equations
@@ -8,6 +10,7 @@ pub mod Lines
 pub mod Mixed
 pub mod Numbers
 pub mod Numerals
+pub mod Products
 pub mod Quotients
 pub mod Ranks
 pub mod Sums

@@ -33,7 +33,7 @@ join lengths lengths = lengths
 join percents percents = percents
 join _ _ = mixed
 
-model_mixed : shape (model mixed) ≡ added_shape (unit_shape Px) (unit_shape Percent)
+pub model_mixed : shape (model mixed) ≡ added_shape (unit_shape Px) (unit_shape Percent)
 unfolding sum_shape
 model_mixed = shape-Sum (Num zero_ratio Px ∷ Num zero_ratio Percent ∷ []) ∙ ap₂ added_shape (shape-Num zero_ratio Px) (shape-Num zero_ratio Percent)
 
@@ -142,3 +142,13 @@ sum_kinds (l ∷ ks) k h =
     let same : Some (fold join l ks) ≡ Some k = merged_fold l ks ∙ h in
     let is : fold join l ks ≡ k = cc in
     added_fold l ks ∙ ap (λ l. shape (model l)) is
+
+-- the kind of a sum of some kinds
+pub joined_kind : Kind → List Kind → Kind
+joined_kind k [] = k
+joined_kind k (l ∷ ks) = join k (joined_kind l ks)
+
+pub joined_merged : (k : Kind) (ks : List Kind) → merged (k ∷ ks) ≡ Some (joined_kind k ks)
+unfolding joined_kind
+joined_merged k [] = refl
+joined_merged k (l ∷ ks) = ap (merge (Some k)) (joined_merged l ks)

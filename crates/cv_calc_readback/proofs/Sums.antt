@@ -33,7 +33,7 @@ use Rattle.cv_calc_readback.proofs.Equations.{counted-Sum, inside-Sum, inside_ap
 use Rattle.cv_calc_readback.proofs.Heads.{Head, sum, head, head-Sum, is_negate, is_number, is_sum, apart, none_joins, with_none, map_append, numbers_alone, nums_are, terms_alone, not_true}
 use Rattle.cv_calc_readback.proofs.Known.{Facts, Opening, Adding}
 use Rattle.cv_calc_readback.proofs.Lines.{rank_of, line_is, bracket_value, bracket_narrow}
-use Rattle.cv_calc_readback.proofs.Mixed.{Kind, model, join, merge, merge_comm, merge_assoc, merge_none, merged, sum_kinds}
+use Rattle.cv_calc_readback.proofs.Mixed.{Kind, model, join, merge, merge_comm, merge_assoc, merge_none, merged, joined_kind, joined_merged, sum_kinds}
 use Rattle.cv_calc_readback.proofs.Numerals.{narrow}
 use Rattle.cv_calc_readback.proofs.Ranks.{in_ranks, in_ranks_map, total, total_in_ranks}
 use Rattle.cv_calc_readback.proofs.Terms.{lp, Opened, Known, Term, Entry, calcs, reads, simples, kinds, texts, shapes_written, shapes_read, shapes_simple, heads_same, within_all, in_range, counted_all, simple_of_all, children_all, fine_fold, fine_all, all_each, line_added, line_narrow}
@@ -157,15 +157,6 @@ written_calcs [] = refl
 written_calcs (e ∷ es) = ap (λ ws. written e.calc ∷ ws) (written_calcs es)
 
 -- ---- the sum
-
-joined_kind : Kind → List Kind → Kind
-joined_kind k [] = k
-joined_kind k (l ∷ ks) = join k (joined_kind l ks)
-
-joined_merged : (k : Kind) (ks : List Kind) → merged (k ∷ ks) ≡ Some (joined_kind k ks)
-unfolding joined_kind
-joined_merged k [] = refl
-joined_merged k (l ∷ ks) = ap (merge (Some k)) (joined_merged l ks)
 
 module _ (es : List Entry) (first second : Entry) (rest : List Entry) (order : sorted es ≡ first ∷ second ∷ rest) (begins : is_negate (head first.calc) ≡ false)
     (differ : apart any_unit [] (heads (first ∷ second ∷ rest)) ≡ true) (flat : no_sums (heads (first ∷ second ∷ rest)) ≡ true) where

@@ -1,0 +1,176 @@
+-- The least, the greatest, and what lies within limits, where nothing is compared: how their texts read, and that they stay.
+use Rattle.std.specs.Prelude.{ℕ, zero, suc, Bool, true, false, ◌&&◌, not, List, [], ◌∷◌, ◌++◌, fold, map, codes, Option, Some, None, if◌then◌else◌}
+use Rattle.std.proofs.Common.{◌≡◌, refl, sym, ◌∙◌, ap, ap₂, subst, append_assoc}
+use Rattle.std.proofs.lemmas.List.{append-nil}
+use Rattle.cv_spec_text.specs.declared.token.Token.{Token}
+use Rattle.cv_spec_text.specs.declared.token.Token.TheVariants as tokens
+use Rattle.cv_spec_text.specs.declared.token.Bracket.TheVariants.{Round}
+use Rattle.cv_ratio.specs.Ratio.{Ratio}
+use Rattle.cv_ratio.specs.Order.{lesser, greater}
+use Rattle.cv_calc.specs.declared.unit.Unit as units
+use Rattle.cv_calc.specs.declared.context.Basis.{Basis}
+use Rattle.cv_calc.specs.declared.context.Context.{Context}
+use Rattle.cv_calc.specs.declared.calc.Calc.{Calc}
+use Rattle.cv_calc.specs.declared.calc.Calc.TheVariants as tree
+use Rattle.cv_calc.specs.declared.calc.Calc.TheOpen.{Calc-F, Num, Sum, Product, Negate, Invert, Min, Max, Clamp}
+use Rattle.cv_calc.specs.declared.calc.Calc.TheViews.{out-Calc}
+use Rattle.cv_calc.specs.Unit.{same_unit}
+use Rattle.cv_calc.specs.Linear.{shape, sum_shape, added_shape}
+use Rattle.cv_calc.specs.Value.{Meaning, value, chosen_of, both}
+use Rattle.cv_calc.proofs.Shapes.{shape-Min, shape-Max, shape-Clamp}
+use Rattle.cv_calcread.specs.Figures.{Evaluated, evaluated, with_part, chosen_next, or_undefined, chosen_of as evaluated_of}
+use Rattle.cv_calcread.specs.declared.figure.Joining.{Joining}
+use Rattle.cv_calcread.specs.declared.figure.Joining.TheVariants.{Least, Greatest}
+use Rattle.cv_calcread.specs.declared.level.Opened.{Opened as Opening_by}
+use Rattle.cv_calcread.specs.declared.level.Opened.TheVariants as opening
+use Rattle.cv_calcread.specs.Grammar.{ReadsValue, ReadsTerms, ReadsArguments, argument, further, term, factor, none}
+use Rattle.cv_calcread.specs.Literals.{exact_number}
+use Rattle.cv_calcread.specs.Reading.{one_or, takes_comma, made, opened_by}
+use Rattle.cv_calcread.proofs.Evaluations.{evaluated-Min, evaluated-Max, evaluated-Clamp}
+use Rattle.cv_simplify.specs.Counted.{Counted, counted, counted_step, inside, all_inside, children_in_range}
+use Rattle.cv_simplify.specs.Simplified as simplified
+use Rattle.cv_simplify.specs.Text.{Written, written, with_child, no_line, arguments_of, call, prefix}
+use Rattle.cv_simplify.specs.declared.place.Place.{Place}
+use Rattle.cv_simplify.specs.declared.place.Place.TheVariants.{Operand, Whole, Added, Multiplied, Argument}
+use Rattle.cv_simplify.proofs.Texts.{written-Min, written-Max, written-Clamp}
+use Rattle.cv_calc_readback.proofs.Answered.{all_fine, fine_append}
+use Rattle.cv_calc_readback.proofs.Digits.{and_true, both_true}
+use Rattle.cv_calc_readback.proofs.Equations.{counted-Min, counted-Max, counted-Clamp, inside-Min, inside-Max, inside-Clamp, value-Min, value-Max, value-Clamp}
+use Rattle.cv_calc_readback.proofs.Heads.{Head, number, head, head_as, head-Min, head-Max, head-Clamp, apart, row_apart}
+use Rattle.cv_calc_readback.proofs.Known.{Facts, Opening}
+use Rattle.cv_calc_readback.proofs.Lines.{call_value, call_narrow, white_terms}
+use Rattle.cv_calc_readback.proofs.Mixed.{Kind, model, join, merged, joined_kind, joined_merged, sum_kinds, added_kinds}
+use Rattle.cv_calc_readback.proofs.Numerals.{narrow, narrow_append}
+use Rattle.cv_calc_readback.proofs.Terms.{lp, Opened, Known, in_range, simple_of_all, children_all, fine_fold, all_each}
+
+-- ---- the arguments
+
+pub record Given : Type 0 where
+  pub calc : Calc
+  pub known : Known calc
+
+abbrev pub calcs : List Given → List Calc
+calcs gs = map (λ (g : Given). g.calc) gs
+
+abbrev pub reads : List Given → List Calc
+reads gs = map (λ (g : Given). g.known.opened.read) gs
+
+abbrev pub simples : List Given → List Calc
+simples gs = map (λ (g : Given). g.known.simple) gs
+
+abbrev pub kinds : List Given → List Kind
+kinds gs = map (λ (g : Given). g.known.kind) gs
+
+abbrev pub heads : List Given → List Head
+heads gs = map (λ (g : Given). head g.calc) gs
+
+abbrev texts : List Given → List Written
+texts gs = map (λ (g : Given). written g.calc) gs
+
+shapes_written : (gs : List Given) → map shape (calcs gs) ≡ map (λ k. shape (model k)) (kinds gs)
+shapes_written [] = refl
+shapes_written (g ∷ gs) = ap₂ (λ s ss. s ∷ ss) g.known.opened.facts.written_shape (shapes_written gs)
+
+shapes_read : (gs : List Given) → map shape (reads gs) ≡ map (λ k. shape (model k)) (kinds gs)
+shapes_read [] = refl
+shapes_read (g ∷ gs) = ap₂ (λ s ss. s ∷ ss) g.known.opened.facts.read_shape (shapes_read gs)
+
+shapes_simple : (gs : List Given) → map shape (simples gs) ≡ map (λ k. shape (model k)) (kinds gs)
+shapes_simple [] = refl
+shapes_simple (g ∷ gs) = ap₂ (λ s ss. s ∷ ss) g.known.opened.facts.simple_shape (shapes_simple gs)
+
+heads_same : (gs : List Given) → map head (simples gs) ≡ heads gs
+heads_same [] = refl
+heads_same (g ∷ gs) = ap₂ (λ h hs. h ∷ hs) g.known.opened.facts.same (heads_same gs)
+
+within_all : (gs : List Given) → all_inside (simples gs) ≡ true
+within_all [] = refl
+within_all (g ∷ gs) = both_true (inside g.known.simple) (all_inside (simples gs)) g.known.opened.facts.within (within_all gs)
+
+counted_all : (y : Context) → lp y → (gs : List Given) → map (counted y) (reads gs) ≡ map in_range (simples gs)
+counted_all y k [] = refl
+counted_all y k (g ∷ gs) = ap₂ (λ (c : Counted) (cs : List Counted). c ∷ cs) (g.known.opened.facts.counts y k) (counted_all y k gs)
+
+fine_all : (gs : List Given) → all_each (reads gs) ≡ true
+fine_all [] = refl
+fine_all (g ∷ gs) = both_true (all_fine (evaluated g.known.opened.read).marks) (all_each (reads gs)) g.known.opened.facts.fine (fine_all gs)
+
+values_all : (m : Meaning) (gs : List Given) → map (value m) (simples gs) ≡ map (value m) (calcs gs)
+values_all m [] = refl
+values_all m (g ∷ gs) = ap₂ (λ r rs. r ∷ rs) (g.known.opened.facts.means m) (values_all m gs)
+
+written_calcs : (gs : List Given) → map written (calcs gs) ≡ texts gs
+written_calcs [] = refl
+written_calcs (g ∷ gs) = ap (λ ws. written g.calc ∷ ws) (written_calcs gs)
+
+-- the arguments chosen so far, and others
+chosen_some : (joining : Joining) (a : Evaluated) (es : List Evaluated) → fold (chosen_next joining) (Some a) es ≡ Some (fold (with_part joining) a es)
+chosen_some joining a [] = refl
+chosen_some joining a (e ∷ es) = chosen_some joining (with_part joining a e) es
+
+fine_chosen : (joining : Joining) (g : Given) (gs : List Given) → all_fine (evaluated_of joining (map evaluated (reads (g ∷ gs)))).marks ≡ true
+fine_chosen joining g gs =
+    ap (λ (o : Option Evaluated). all_fine (or_undefined o).marks) (chosen_some joining (evaluated g.known.opened.read) (map evaluated (reads gs)))
+    ∙ fine_fold joining (evaluated g.known.opened.read) (reads gs) g.known.opened.facts.fine (fine_all gs)
+
+-- ---- their text
+
+abbrev line : Given → List Given → List Token
+line g gs = (fold (with_child Whole Argument) (record { line = (written g.calc).at_place Whole; started = true }) (texts gs)).line
+
+arguments_line : (g : Given) (gs : List Given) → arguments_of (map written (calcs (g ∷ gs))) ≡ line g gs
+arguments_line g gs = ap (λ ws. (fold (with_child Whole Argument) no_line ws).line) (written_calcs (g ∷ gs))
+
+module _ (opened : Opening_by) (comma : takes_comma opened ≡ true) where
+  line_further : (text : List Token) (ds : List Calc) (gs : List Given) → ((us rest : List Token) → us ≡ rest → ReadsArguments exact_number opened (text ++ us) rest ds) →
+      (rest : List Token) → ReadsArguments exact_number opened ((fold (with_child Whole Argument) (record { line = text; started = true }) (texts gs)).line ++ rest) rest (ds ++ reads gs)
+  line_further text ds [] h rest = subst (λ (cs : List Calc). ReadsArguments exact_number opened (text ++ rest) rest cs) (sym (append-nil ds)) (h rest rest refl)
+  line_further text ds (g ∷ gs) h rest =
+      let o = g.known.opened.opens in
+      let at = (written g.calc).at_place Argument in
+      let inner = (written g.calc).at_place Whole in
+      subst (λ (cs : List Calc). ReadsArguments exact_number opened ((fold (with_child Whole Argument) (record { line = text ++ at; started = true }) (texts gs)).line ++ rest) rest cs)
+          (append_assoc ds (g.known.opened.read ∷ []) (reads gs))
+          (line_further (text ++ at) (ds ++ g.known.opened.read ∷ []) gs (λ us r e. more us r e) rest)
+    where
+      split : (us : List Token) → (text ++ (written g.calc).at_place Argument) ++ us ≡ text ++ (tokens.Comma ∷ tokens.White ∷ ((written g.calc).at_place Whole ++ us))
+      split us = append_assoc text ((written g.calc).at_place Argument) us ∙ ap (λ (ts : List Token). text ++ (ts ++ us)) g.known.opened.opens.argument
+
+      more : (us r : List Token) → us ≡ r → ReadsArguments exact_number opened ((text ++ (written g.calc).at_place Argument) ++ us) r (ds ++ g.known.opened.read ∷ [])
+      more us r e =
+          subst (λ (ts : List Token). ReadsArguments exact_number opened ts r (ds ++ g.known.opened.read ∷ [])) (ap (λ (vs : List Token). text ++ (tokens.Comma ∷ tokens.White ∷ ((written g.calc).at_place Whole ++ vs))) (sym e) ∙ sym (split us))
+              (subst (λ (c : Calc). ReadsArguments exact_number opened (text ++ (tokens.Comma ∷ tokens.White ∷ ((written g.calc).at_place Whole ++ r))) r (ds ++ c ∷ [])) g.known.opened.opens.joined
+                  (further comma (h (tokens.Comma ∷ tokens.White ∷ ((written g.calc).at_place Whole ++ r)) (tokens.Comma ∷ tokens.White ∷ ((written g.calc).at_place Whole ++ r)) refl) (white_terms (g.known.opened.opens.whole r)) none))
+
+  pub arguments_read : (g : Given) (gs : List Given) (rest : List Token) → ReadsArguments exact_number opened (line g gs ++ rest) rest (reads (g ∷ gs))
+  arguments_read g gs rest = line_further ((written g.calc).at_place Whole) (g.known.opened.read ∷ []) gs (λ us r e. first us r e) rest
+    where
+      first : (us r : List Token) → us ≡ r → ReadsArguments exact_number opened ((written g.calc).at_place Whole ++ us) r (g.known.opened.read ∷ [])
+      first us r e =
+          subst (λ (vs : List Token). ReadsArguments exact_number opened ((written g.calc).at_place Whole ++ vs) r (g.known.opened.read ∷ [])) (sym e)
+              (subst (λ (c : Calc). ReadsArguments exact_number opened ((written g.calc).at_place Whole ++ r) r (c ∷ [])) g.known.opened.opens.joined (argument (g.known.opened.opens.whole r) none))
+
+further_narrow : (text : List Token) (gs : List Given) → narrow text ≡ true → narrow (fold (with_child Whole Argument) (record { line = text; started = true }) (texts gs)).line ≡ true
+further_narrow text [] h = h
+further_narrow text (g ∷ gs) h =
+    further_narrow (text ++ (written g.calc).at_place Argument) gs (narrow_append text ((written g.calc).at_place Argument) h (ap narrow g.known.opened.opens.argument ∙ g.known.opened.opens.whole_narrow))
+
+line_narrow : (g : Given) (gs : List Given) → narrow (line g gs) ≡ true
+line_narrow g gs = further_narrow ((written g.calc).at_place Whole) gs g.known.opened.opens.whole_narrow
+
+-- how a function of the arguments reads
+called : (w : Written) (name : List ℕ) (opened : Opening_by) (g : Given) (gs : List Given) (read : Calc) →
+    w.at_place Operand ≡ call name (line g gs) → w.at_place Whole ≡ call name (line g gs) → w.at_place Argument ≡ tokens.Comma ∷ tokens.White ∷ w.at_place Whole →
+    takes_comma opened ≡ true → opened_by name ≡ Some opened → made opened (reads (g ∷ gs)) ≡ Some read → Opening w read
+called w name opened g gs read e f a comma is makes = record {
+  operand = λ rest. subst (λ (ts : List Token). ReadsValue exact_number (ts ++ rest) rest read) (sym e) (value rest);
+  operand_narrow = ap narrow e ∙ call_narrow name (line g gs) (line_narrow g gs);
+  terms = read ∷ [];
+  whole = λ rest. subst (λ (ts : List Token). ReadsTerms exact_number (ts ++ rest) rest (read ∷ [])) (sym f) (term (factor none (value rest)));
+  whole_narrow = ap narrow f ∙ call_narrow name (line g gs) (line_narrow g gs);
+  joined = refl;
+  argument = a;
+}
+  where
+    value : (rest : List Token) → ReadsValue exact_number (call name (line g gs) ++ rest) rest read
+    value rest = call_value name opened (line g gs) (reads (g ∷ gs)) read is (λ rest. arguments_read opened comma g gs (tokens.Close Round ∷ rest)) makes rest
