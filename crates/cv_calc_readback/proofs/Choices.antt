@@ -64,30 +64,30 @@ kinds gs = map (λ (g : Given). g.known.kind) gs
 abbrev pub heads : List Given → List Head
 heads gs = map (λ (g : Given). head g.calc) gs
 
-abbrev texts : List Given → List Written
+abbrev pub texts : List Given → List Written
 texts gs = map (λ (g : Given). written g.calc) gs
 
-shapes_written : (gs : List Given) → map shape (calcs gs) ≡ map (λ k. shape (model k)) (kinds gs)
+pub shapes_written : (gs : List Given) → map shape (calcs gs) ≡ map (λ k. shape (model k)) (kinds gs)
 shapes_written [] = refl
 shapes_written (g ∷ gs) = ap₂ (λ s ss. s ∷ ss) g.known.opened.facts.written_shape (shapes_written gs)
 
-shapes_read : (gs : List Given) → map shape (reads gs) ≡ map (λ k. shape (model k)) (kinds gs)
+pub shapes_read : (gs : List Given) → map shape (reads gs) ≡ map (λ k. shape (model k)) (kinds gs)
 shapes_read [] = refl
 shapes_read (g ∷ gs) = ap₂ (λ s ss. s ∷ ss) g.known.opened.facts.read_shape (shapes_read gs)
 
-shapes_simple : (gs : List Given) → map shape (simples gs) ≡ map (λ k. shape (model k)) (kinds gs)
+pub shapes_simple : (gs : List Given) → map shape (simples gs) ≡ map (λ k. shape (model k)) (kinds gs)
 shapes_simple [] = refl
 shapes_simple (g ∷ gs) = ap₂ (λ s ss. s ∷ ss) g.known.opened.facts.simple_shape (shapes_simple gs)
 
-heads_same : (gs : List Given) → map head (simples gs) ≡ heads gs
+pub heads_same : (gs : List Given) → map head (simples gs) ≡ heads gs
 heads_same [] = refl
 heads_same (g ∷ gs) = ap₂ (λ h hs. h ∷ hs) g.known.opened.facts.same (heads_same gs)
 
-within_all : (gs : List Given) → all_inside (simples gs) ≡ true
+pub within_all : (gs : List Given) → all_inside (simples gs) ≡ true
 within_all [] = refl
 within_all (g ∷ gs) = both_true (inside g.known.simple) (all_inside (simples gs)) g.known.opened.facts.within (within_all gs)
 
-counted_all : (y : Context) → lp y → (gs : List Given) → map (counted y) (reads gs) ≡ map in_range (simples gs)
+pub counted_all : (y : Context) → lp y → (gs : List Given) → map (counted y) (reads gs) ≡ map in_range (simples gs)
 counted_all y k [] = refl
 counted_all y k (g ∷ gs) = ap₂ (λ (c : Counted) (cs : List Counted). c ∷ cs) (g.known.opened.facts.counts y k) (counted_all y k gs)
 
@@ -95,7 +95,7 @@ fine_all : (gs : List Given) → all_each (reads gs) ≡ true
 fine_all [] = refl
 fine_all (g ∷ gs) = both_true (all_fine (evaluated g.known.opened.read).marks) (all_each (reads gs)) g.known.opened.facts.fine (fine_all gs)
 
-values_all : (m : Meaning) (gs : List Given) → map (value m) (simples gs) ≡ map (value m) (calcs gs)
+pub values_all : (m : Meaning) (gs : List Given) → map (value m) (simples gs) ≡ map (value m) (calcs gs)
 values_all m [] = refl
 values_all m (g ∷ gs) = ap₂ (λ r rs. r ∷ rs) (g.known.opened.facts.means m) (values_all m gs)
 
@@ -108,17 +108,17 @@ chosen_some : (joining : Joining) (a : Evaluated) (es : List Evaluated) → fold
 chosen_some joining a [] = refl
 chosen_some joining a (e ∷ es) = chosen_some joining (with_part joining a e) es
 
-fine_chosen : (joining : Joining) (g : Given) (gs : List Given) → all_fine (evaluated_of joining (map evaluated (reads (g ∷ gs)))).marks ≡ true
+pub fine_chosen : (joining : Joining) (g : Given) (gs : List Given) → all_fine (evaluated_of joining (map evaluated (reads (g ∷ gs)))).marks ≡ true
 fine_chosen joining g gs =
     ap (λ (o : Option Evaluated). all_fine (or_undefined o).marks) (chosen_some joining (evaluated g.known.opened.read) (map evaluated (reads gs)))
     ∙ fine_fold joining (evaluated g.known.opened.read) (reads gs) g.known.opened.facts.fine (fine_all gs)
 
 -- ---- their text
 
-abbrev line : Given → List Given → List Token
+abbrev pub line : Given → List Given → List Token
 line g gs = (fold (with_child Whole Argument) (record { line = (written g.calc).at_place Whole; started = true }) (texts gs)).line
 
-arguments_line : (g : Given) (gs : List Given) → arguments_of (map written (calcs (g ∷ gs))) ≡ line g gs
+pub arguments_line : (g : Given) (gs : List Given) → arguments_of (map written (calcs (g ∷ gs))) ≡ line g gs
 arguments_line g gs = ap (λ ws. (fold (with_child Whole Argument) no_line ws).line) (written_calcs (g ∷ gs))
 
 module _ (opened : Opening_by) (comma : takes_comma opened ≡ true) where
@@ -159,7 +159,7 @@ line_narrow : (g : Given) (gs : List Given) → narrow (line g gs) ≡ true
 line_narrow g gs = further_narrow ((written g.calc).at_place Whole) gs g.known.opened.opens.whole_narrow
 
 -- how a function of the arguments reads
-called : (w : Written) (name : List ℕ) (opened : Opening_by) (g : Given) (gs : List Given) (read : Calc) →
+pub called : (w : Written) (name : List ℕ) (opened : Opening_by) (g : Given) (gs : List Given) (read : Calc) →
     w.at_place Operand ≡ call name (line g gs) → w.at_place Whole ≡ call name (line g gs) → w.at_place Argument ≡ tokens.Comma ∷ tokens.White ∷ w.at_place Whole →
     takes_comma opened ≡ true → opened_by name ≡ Some opened → made opened (reads (g ∷ gs)) ≡ Some read → Opening w read
 called w name opened g gs read e f a comma is makes = record {

@@ -4,10 +4,13 @@ pub mod Composites
 pub mod Decimals
 pub mod Digits
 pub mod Equations
+pub mod Forms
 pub mod Heads
 pub mod Known
 pub mod Lines
+pub mod Limits
 pub mod Mixed
+pub mod Negatives
 pub mod Numbers
 pub mod Numerals
 pub mod Products
