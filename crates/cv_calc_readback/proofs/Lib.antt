@@ -1,4 +1,5 @@
 pub mod Answered
+pub mod Back
 pub mod Choices
 pub mod Composites
 pub mod Decimals

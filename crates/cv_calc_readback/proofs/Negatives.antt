@@ -46,11 +46,11 @@ abbrev pub measure_kind : {u : units.Unit} → Measure u → Kind
 measure_kind px = lengths
 measure_kind percent = percents
 
-measure_canonical : {u : units.Unit} → Measure u → is_canonical u ≡ true
+pub measure_canonical : {u : units.Unit} → Measure u → is_canonical u ≡ true
 measure_canonical px = refl
 measure_canonical percent = refl
 
-measure_suits : {u : units.Unit} → Measure u → (y : Context) → lp y → suits u y
+pub measure_suits : {u : units.Unit} → Measure u → (y : Context) → lp y → suits u y
 measure_suits px y k = tt
 measure_suits percent y k = subst (λ (b : Basis). Keeps Percent b) (sym k) tt
 

@@ -232,5 +232,8 @@ alone v u within h false e =
       simple = λ y k. sym (counted_simple y (quotient v.top v.bottom u)) ∙ ap (λ (c : Counted). c.simple) (f.counts y k);
     })
 
+pub alone_back : (v : Ratio) (u : units.Unit) → in_bounds v ≡ true → is_canonical u ≡ true → NumberReadsBack v u (number_alone v u)
+alone_back v u within h = alone v u within h (has_decimal v) refl
+
 pub numbers_read_back : NumbersReadBack
-numbers_read_back = record { reads = λ v u within h. alone v u within h (has_decimal v) refl }
+numbers_read_back = record { reads = alone_back }
