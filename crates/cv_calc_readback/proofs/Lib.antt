@@ -14,6 +14,7 @@ pub mod Mixed
 pub mod Negatives
 pub mod Numbers
 pub mod Numerals
+pub mod Orders
 pub mod Products
 pub mod Quotients
 pub mod Ranks

@@ -119,25 +119,24 @@ values_sorted m es = sym (all (sorted es)) ∙ total_in_ranks rank (λ (e : Entr
     all [] = refl
     all (e ∷ es) = ap (both add (value m e.calc)) (all es)
 
-and_comm : (a b : Bool) → (a && b) ≡ (b && a)
+pub and_comm : (a b : Bool) → (a && b) ≡ (b && a)
 and_comm true true = refl
 and_comm true false = refl
 and_comm false true = refl
 and_comm false false = refl
 
-and_assoc : (a b c : Bool) → ((a && b) && c) ≡ (a && (b && c))
+pub and_assoc : (a b c : Bool) → ((a && b) && c) ≡ (a && (b && c))
 and_assoc true b c = refl
 and_assoc false b c = refl
 
-and_unit : (a : Bool) → (a && true) ≡ a
+pub and_unit : (a : Bool) → (a && true) ≡ a
 and_unit true = refl
 and_unit false = refl
 
-both_and : Bool → Bool → Bool
+abbrev pub both_and : Bool → Bool → Bool
 both_and a b = a && b
 
 numbers_sorted : (es : List Entry) → numbers_alone (heads (sorted es)) ≡ numbers_alone (heads es)
-unfolding both_and
 numbers_sorted es = sym (all (sorted es)) ∙ total_in_ranks rank (λ (e : Entry). is_number (head e.calc)) true both_and and_comm and_assoc and_unit 31 bound es ∙ all es
   where
     all : (es : List Entry) → total rank (λ (e : Entry). is_number (head e.calc)) true both_and and_comm and_assoc and_unit es ≡ numbers_alone (heads es)
