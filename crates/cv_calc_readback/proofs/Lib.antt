@@ -18,5 +18,6 @@ pub mod Orders
 pub mod Products
 pub mod Quotients
 pub mod Ranks
+pub mod RowOrders
 pub mod Sums
 pub mod Terms

@@ -161,12 +161,12 @@ low_as c (Min cs) e = ap (λ d. nat_lt (text_rank d) 30) (sym e ∙ rolls-Min cs
 low_as c (Max cs) e = ap (λ d. nat_lt (text_rank d) 30) (sym e ∙ rolls-Max cs) ∙ ap (λ (w : Written). nat_lt w.rank 30) (written-Max cs)
 low_as c (Clamp a b d) e = ap (λ d. nat_lt (text_rank d) 30) (sym e ∙ rolls-Clamp a b d) ∙ ap (λ (w : Written). nat_lt w.rank 30) (written-Clamp a b d)
 
-low_number : (c : Calc) → nat_lt (text_rank c) 30 ≡ is_number (head c)
+pub low_number : (c : Calc) → nat_lt (text_rank c) 30 ≡ is_number (head c)
 low_number c = low_as c (out-Calc c) (roll-out-Calc c)
 
 -- ---- a list in the order of ranks
 
-abbrev all_low : ℕ → List Calc → Bool
+abbrev pub all_low : ℕ → List Calc → Bool
 all_low n [] = true
 all_low n (c ∷ cs) = nat_lt (text_rank c) n && all_low n cs
 
@@ -192,7 +192,7 @@ low_rank r (c ∷ cs) = go (text_rank c == r) refl (low_rank r cs)
     go true is more = rw is (both_true (nat_lt (text_rank c) (suc r)) (all_low (suc r) (filter (has_rank text_rank r) cs)) (here (text_rank c) r is) more)
     go false is more = rw is more
 
-ranks_low : (n : ℕ) (cs : List Calc) → all_low n (in_ranks text_rank n cs) ≡ true
+pub ranks_low : (n : ℕ) (cs : List Calc) → all_low n (in_ranks text_rank n cs) ≡ true
 ranks_low zero cs = refl
 ranks_low (suc r) cs = low_append (suc r) (in_ranks text_rank r cs) (filter (has_rank text_rank r) cs) (low_more r (in_ranks text_rank r cs) (ranks_low r cs)) (low_rank r cs)
 
@@ -215,7 +215,7 @@ ranks_between r (a ∷ bs) cs e =
     let p = and_true (nat_lt (text_rank a) r) (all_low r bs) e in
     both_true (none_after any_unit (head a) (map head (filter (has_rank text_rank r) cs))) (between any_unit (map head bs) (map head (filter (has_rank text_rank r) cs))) (rank_none a r cs p.0) (ranks_between r bs cs p.1)
 
-pairs_ranks : (n : ℕ) (cs : List Calc) → pairs_apart any_unit (map head cs) ≡ true → pairs_apart any_unit (map head (in_ranks text_rank n cs)) ≡ true
+pub pairs_ranks : (n : ℕ) (cs : List Calc) → pairs_apart any_unit (map head cs) ≡ true → pairs_apart any_unit (map head (in_ranks text_rank n cs)) ≡ true
 pairs_ranks zero cs e = refl
 pairs_ranks (suc r) cs e =
     ap (pairs_apart any_unit) (map_append head (in_ranks text_rank r cs) (filter (has_rank text_rank r) cs))
