@@ -23,14 +23,14 @@ use Rattle.cv_calcread.specs.declared.level.Opened.TheVariants as opening
 use Rattle.cv_calcread.specs.Grammar.{ReadsValue, ReadsArguments, argument, none, BeginsFunction, begins}
 use Rattle.cv_calcread.specs.Literals.{exact_number}
 use Rattle.cv_simplify.specs.Canonical.{is_canonical}
-use Rattle.cv_simplify.specs.Counted.{Counted, counted, is_in_range}
+use Rattle.cv_simplify.specs.Counted.{Counted, counted, inside, is_in_range}
 use Rattle.cv_simplify.specs.Simplified.{simp}
 use Rattle.cv_simplify.specs.Text.{Written, written, calc_text, calc_text_as, call, closing, number_alone, arguments_of}
 use Rattle.cv_simplify.specs.declared.place.Place.TheVariants.{Operand, Whole}
 use Rattle.cv_simplify.proofs.Texts.{written-Min, written-Max, written-Clamp}
 use Rattle.cv_calc_readback.specs.ReadsBack.{Keeps, IsNumeral, NumberReadsBack, numeral, quotient, ReadsBack, ReadsAsNumber, ReadsAsEqual, number, calculation}
 use Rattle.cv_calc_readback.proofs.Answered.{all_fine, answered}
-use Rattle.cv_calc_readback.proofs.Equations.{counted_simple}
+use Rattle.cv_calc_readback.proofs.Equations.{counted_simple, inside-Num}
 use Rattle.cv_calc_readback.proofs.Forms.{IsForm, measure, sum, product, turned, least, greatest, limited, form_known}
 use Rattle.cv_calc_readback.proofs.Known.{Facts, Opening}
 use Rattle.cv_calc_readback.proofs.Lines.{call_value, call_narrow}
@@ -158,17 +158,17 @@ number_back {u} v m within = subst (ReadsBack (tree.Num v u)) (sym (number_text 
 
 -- ---- the whole
 
-pub form_back : {s : Calc} → IsForm s → ReadsBack s (calc_text s)
-form_back (measure v m b) = number_back v m b
-form_back (sum {cs} t r) = let k = form_known (sum t r) in calculation (reads_as_equal (tree.Sum cs) k (within_calc (tree.Sum cs) k.opened.read k.opened.opens (sum_text cs)))
-form_back (product n {x} b t f) =
-    let k = form_known (product n b t f) in
+pub form_back : {s : Calc} → IsForm s → inside s ≡ true → ReadsBack s (calc_text s)
+form_back (measure {u} v m) w = number_back v m (sym (inside-Num v u) ∙ w)
+form_back (sum {cs} t r) w = let k = form_known (sum t r) w in calculation (reads_as_equal (tree.Sum cs) k (within_calc (tree.Sum cs) k.opened.read k.opened.opens (sum_text cs)))
+form_back (product n {x} t f) w =
+    let k = form_known (product n t f) w in
     let cs : List Calc = tree.Num n Number ∷ x ∷ [] in
     calculation (reads_as_equal (tree.Product cs) k (within_calc (tree.Product cs) k.opened.read k.opened.opens (product_text cs)))
-form_back (turned n {x} b t f) =
-    let k = form_known (turned n b t f) in
+form_back (turned n {x} t f) w =
+    let k = form_known (turned n t f) w in
     let cs : List Calc = x ∷ tree.Num n Number ∷ [] in
     calculation (reads_as_equal (tree.Product cs) k (within_calc (tree.Product cs) k.opened.read k.opened.opens (product_text cs)))
-form_back (least {c} {d} {cs} f a) = let k = form_known (least f a) in calculation (reads_as_equal (tree.Min (c ∷ d ∷ cs)) k (min_top (c ∷ d ∷ cs) k.opened.read k.opened.opens))
-form_back (greatest {c} {d} {cs} f a) = let k = form_known (greatest f a) in calculation (reads_as_equal (tree.Max (c ∷ d ∷ cs)) k (max_top (c ∷ d ∷ cs) k.opened.read k.opened.opens))
-form_back (limited {a} {b} {c} f g i j) = let k = form_known (limited f g i j) in calculation (reads_as_equal (tree.Clamp a b c) k (clamp_top a b c k.opened.read k.opened.opens))
+form_back (least {c} {d} {cs} f a) w = let k = form_known (least f a) w in calculation (reads_as_equal (tree.Min (c ∷ d ∷ cs)) k (min_top (c ∷ d ∷ cs) k.opened.read k.opened.opens))
+form_back (greatest {c} {d} {cs} f a) w = let k = form_known (greatest f a) w in calculation (reads_as_equal (tree.Max (c ∷ d ∷ cs)) k (max_top (c ∷ d ∷ cs) k.opened.read k.opened.opens))
+form_back (limited {a} {b} {c} f g i j) w = let k = form_known (limited f g i j) w in calculation (reads_as_equal (tree.Clamp a b c) k (clamp_top a b c k.opened.read k.opened.opens))

@@ -18,6 +18,7 @@ pub mod Orders
 pub mod Products
 pub mod Quotients
 pub mod Ranks
+pub mod ReadShapes
 pub mod RowOrders
 pub mod Sums
 pub mod Terms
