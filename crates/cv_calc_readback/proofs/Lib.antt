@@ -5,6 +5,7 @@ pub mod Composites
 pub mod Decimals
 pub mod Digits
 pub mod Equations
+pub mod FormRows
 pub mod Forms
 pub mod Heads
 pub mod Known
@@ -15,10 +16,12 @@ pub mod Negatives
 pub mod Numbers
 pub mod Numerals
 pub mod Orders
+pub mod ProductForms
 pub mod Products
 pub mod Quotients
 pub mod Ranks
 pub mod ReadShapes
 pub mod RowOrders
+pub mod SumForms
 pub mod Sums
 pub mod Terms

@@ -1,0 +1,307 @@
+-- A product of numbers and one simplified calculation has the form of a product, or is that calculation with a number multiplied into it.
+use Rattle.std.specs.Prelude.{ℕ, suc, Bool, true, false, ◌&&◌, ◌||◌, not, List, [], ◌∷◌, ◌++◌, map, fold, length, ◌≤◌, Option, Some, None, option_map, if◌then◌else◌}
+use Rattle.std.proofs.Common.{◌≡◌, refl, sym, ◌∙◌, ap, ap₂, subst, inl, inr}
+use Rattle.cv_ratio.specs.Ratio.{Ratio, mul}
+use Rattle.cv_calc.specs.declared.unit.Unit as units
+use Rattle.cv_calc.specs.declared.unit.Unit.TheVariants.{Number, Px, Percent}
+use Rattle.cv_calc.specs.declared.calc.Calc.{Calc}
+use Rattle.cv_calc.specs.declared.calc.Calc.TheVariants as tree
+use Rattle.cv_calc.specs.declared.calc.Calc.TheOpen.{Calc-F, Num, Sum, Product, Negate, Invert, Min, Max, Clamp}
+use Rattle.cv_calc.specs.declared.calc.Calc.TheViews.{out-Calc}
+use Rattle.cv_calc.specs.Tree.{out-Num, out-Sum, out-Product}
+use Rattle.cv_calc.specs.Unit.{same_unit}
+use Rattle.cv_simplify.specs.Simplified.{any_unit, joined_as, joined_by, join_first, with_child, factors_as, factors_of, is_number, with_factors_of, product_row, number_as, number_of, scaled_term, both_terms, scaled_terms, scaled_as, scaled, scaled_pair, or_else, product_as, multiplied}
+use Rattle.cv_calc_laws.proofs.Lists.{Every, AllButOne}
+use Rattle.cv_calc_laws.proofs.Rows.{IsNum}
+use Rattle.cv_calc_readback.proofs.Digits.{and_true, both_true}
+use Rattle.cv_calc_readback.proofs.Forms.{IsForm, measure, sum, product, turned, least, greatest, limited, IsTerm, plus, minus, AreTerms, no_terms, terms}
+use Rattle.cv_calc_readback.proofs.FormRows.{term_measure, form_measure}
+use Rattle.cv_calc_readback.proofs.Heads.{Head, number, head, head_as, head-Num, head-Sum, head-Product, head-Min, head-Max, head-Clamp, is_negate, is_sum, is_num, nums_alone, joinable, joined_none}
+use Rattle.cv_calc_readback.proofs.Heads as heads
+use Rattle.cv_calc_readback.proofs.Negatives.{Measure, px, percent}
+use Rattle.cv_calc_readback.proofs.Orders.{none_after, pairs_apart, number_is}
+use Rattle.cv_calc_readback.proofs.Products.{times_head, multiplied_stays}
+use Rattle.cv_calc_readback.proofs.RowOrders.{IsRow, starts, has_number}
+use Rattle.cv_calc_readback.proofs.Sums.{no_sums}
+
+abbrev plain : Ratio → Calc
+plain v = tree.Num v Number
+
+abbrev join : Calc → Calc → Option Calc
+join = joined_by is_number mul
+
+-- ---- a factor that is no plain number and no product
+
+abbrev other_head : Head → Bool
+other_head (number v u) = not (is_number u)
+other_head (heads.sum b) = true
+other_head heads.product = false
+other_head heads.negate = false
+other_head heads.invert = false
+other_head heads.least = true
+other_head heads.greatest = true
+other_head heads.clamp = true
+
+record Other (z : Calc) : Type 0 where
+  form : IsForm z
+  kind : other_head (head z) ≡ true
+
+number_apart : (m : Ratio) (h : Head) → other_head h ≡ true → joinable is_number (number m Number) h ≡ false
+number_apart m (number v u) e = go (is_number u) e
+  where
+    go : (b : Bool) → not b ≡ true → (b && true) ≡ false
+    go true e = cc
+    go false e = refl
+number_apart m (heads.sum b) e = refl
+number_apart m heads.product e = refl
+number_apart m heads.negate e = refl
+number_apart m heads.invert e = refl
+number_apart m heads.least e = refl
+number_apart m heads.greatest e = refl
+number_apart m heads.clamp e = refl
+
+apart_number : (m : Ratio) (h : Head) → other_head h ≡ true → joinable is_number h (number m Number) ≡ false
+apart_number m (number v u) e = go (same_unit u Number) (is_number u) e
+  where
+    go : (a b : Bool) → not b ≡ true → (a && b) ≡ false
+    go a true e = cc
+    go true false e = refl
+    go false false e = refl
+apart_number m (heads.sum b) e = refl
+apart_number m heads.product e = refl
+apart_number m heads.negate e = refl
+apart_number m heads.invert e = refl
+apart_number m heads.least e = refl
+apart_number m heads.greatest e = refl
+apart_number m heads.clamp e = refl
+
+number_other : (m : Ratio) (z : Calc) → Other z → join (plain m) z ≡ None
+number_other m z o = joined_none is_number mul (plain m) z (ap (λ h. joinable is_number h (head z)) (head-Num m Number) ∙ number_apart m (head z) o.kind)
+
+other_number : (z : Calc) (m : Ratio) → Other z → join z (plain m) ≡ None
+other_number z m o = joined_none is_number mul z (plain m) (ap (joinable is_number (head z)) (head-Num m Number) ∙ apart_number m (head z) o.kind)
+
+numbers_join : (v w : Ratio) → join (plain v) (plain w) ≡ Some (plain (mul v w))
+numbers_join v w = ap₂ (joined_as is_number mul) (out-Num v Number) (out-Num w Number)
+
+-- ---- rows
+
+-- plain numbers alone
+data Plains : List Calc → Type 0 where
+  nothing : Plains []
+  one : (n : Ratio) → Plains (plain n ∷ [])
+
+-- and with another factor
+data Mixed : List Calc → Type 0 where
+  alone : (z : Calc) → Other z → Mixed (z ∷ [])
+  before : (n : Ratio) (z : Calc) → Other z → Mixed (plain n ∷ z ∷ [])
+  behind : (z : Calc) (n : Ratio) → Other z → Mixed (z ∷ plain n ∷ [])
+
+single : (row : List Calc) (w : Ratio) → with_factors_of row (plain w) ≡ with_child join row (plain w)
+single row w = ap (λ l. fold (with_child join) row (factors_as (plain w) l)) (out-Num w Number)
+
+plains_child : (row : List Calc) (n : Ratio) → Plains row → Plains (with_child join row (plain n))
+plains_child _ n nothing = one n
+plains_child _ n (one m) = subst Plains (sym (ap (λ o. join_first o (plain m) [] (plain n ∷ [])) (numbers_join m n))) (one (mul m n))
+
+mixed_child : (row : List Calc) (n : Ratio) → Mixed row → Mixed (with_child join row (plain n))
+mixed_child _ n (alone z o) = subst Mixed (sym (ap (λ p. join_first p z [] (plain n ∷ [])) (other_number z n o))) (behind z n o)
+mixed_child _ n (before m z o) = subst Mixed (sym (ap (λ p. join_first p (plain m) (z ∷ []) (with_child join (z ∷ []) (plain n))) (numbers_join m n))) (before (mul m n) z o)
+mixed_child _ n (behind z m o) =
+    subst Mixed (sym (ap₂ (λ p q. join_first p z (plain m ∷ []) (join_first q (plain m) [] (plain n ∷ []))) (other_number z n o) (numbers_join m n))) (behind z (mul m n) o)
+
+other_child : (row : List Calc) (z : Calc) → Plains row → Other z → Mixed (with_child join row z)
+other_child _ z nothing o = alone z o
+other_child _ z (one n) o = subst Mixed (sym (ap (λ p. join_first p (plain n) [] (z ∷ [])) (number_other n z o))) (before n z o)
+
+mixed_rest : (row ds : List Calc) → Mixed row → Every (IsNum Number) ds → Mixed (fold with_factors_of row ds)
+mixed_rest row [] h k = h
+mixed_rest row (d ∷ ds) h k =
+    mixed_rest (with_factors_of row d) ds (subst Mixed (sym (single row k.0.0) ∙ ap (with_factors_of row) (sym k.0.1)) (mixed_child row k.0.0 h)) k.1
+
+-- ---- the factors of a form
+
+times_other : {z : Calc} → IsForm z → times_head (head z) ≡ true → Other z
+times_other {z} f h = record { form = f; kind = go (head z) h }
+  where
+    go : (k : Head) → times_head k ≡ true → other_head k ≡ true
+    go (number v u) e = cc
+    go (heads.sum b) e = refl
+    go heads.product e = cc
+    go heads.negate e = cc
+    go heads.invert e = cc
+    go heads.least e = refl
+    go heads.greatest e = refl
+    go heads.clamp e = refl
+
+measure_other : {u : units.Unit} (v : Ratio) → Measure u → Other (tree.Num v u)
+measure_other v px = record { form = measure v px; kind = ap other_head (head-Num v Px) }
+measure_other v percent = record { form = measure v percent; kind = ap other_head (head-Num v Percent) }
+
+factors_alone_as : (c : Calc) (l : Calc-F Calc) → other_head (head_as l) ≡ true → factors_as c l ≡ c ∷ []
+factors_alone_as c (Num v u) h = refl
+factors_alone_as c (Sum cs) h = refl
+factors_alone_as c (Product cs) h = cc
+factors_alone_as c (Negate d) h = refl
+factors_alone_as c (Invert d) h = refl
+factors_alone_as c (Min cs) h = refl
+factors_alone_as c (Max cs) h = refl
+factors_alone_as c (Clamp a b d) h = refl
+
+other_row : (row : List Calc) (z : Calc) → Plains row → Other z → Mixed (with_factors_of row z)
+other_row row z p o = subst Mixed (sym (ap (fold (with_child join) row) (factors_alone_as z (out-Calc z) o.kind))) (other_child row z p o)
+
+form_row : {z : Calc} → IsForm z → (row : List Calc) → Plains row → Mixed (with_factors_of row z)
+form_row (measure {u} v m) row p = other_row row (tree.Num v u) p (measure_other v m)
+form_row (sum {cs} t r) row p = other_row row (tree.Sum cs) p (record { form = sum t r; kind = ap other_head (head-Sum cs) })
+form_row (product n {x} t f) row p =
+    subst Mixed (sym (ap (λ l. fold (with_child join) row (factors_as (tree.Product (plain n ∷ x ∷ [])) l)) (out-Product (plain n ∷ x ∷ []))))
+        (other_child (with_child join row (plain n)) x (plains_child row n p) (times_other f t))
+form_row (turned n {x} t f) row p =
+    subst Mixed (sym (ap (λ l. fold (with_child join) row (factors_as (tree.Product (x ∷ plain n ∷ [])) l)) (out-Product (x ∷ plain n ∷ []))))
+        (mixed_child (with_child join row x) n (other_child row x p (times_other f t)))
+form_row (least {c} {d} {cs} f a) row p = other_row row (tree.Min (c ∷ d ∷ cs)) p (record { form = least f a; kind = ap other_head (head-Min (c ∷ d ∷ cs)) })
+form_row (greatest {c} {d} {cs} f a) row p = other_row row (tree.Max (c ∷ d ∷ cs)) p (record { form = greatest f a; kind = ap other_head (head-Max (c ∷ d ∷ cs)) })
+form_row (limited {a} {b} {c} f g i j) row p = other_row row (tree.Clamp a b c) p (record { form = limited f g i j; kind = ap other_head (head-Clamp a b c) })
+
+mixed_row : (row ds : List Calc) → Plains row → AllButOne (IsNum Number) IsForm ds → Mixed (fold with_factors_of row ds)
+mixed_row row [] p k = absurd k
+mixed_row row (d ∷ ds) p (inl k) =
+    mixed_row (with_factors_of row d) ds (subst Plains (sym (single row k.0.0) ∙ ap (with_factors_of row) (sym k.0.1)) (plains_child row k.0.0 p)) k.1
+mixed_row row (d ∷ ds) p (inr k) = mixed_rest (with_factors_of row d) ds (form_row k.0 row p) k.1
+
+-- ---- a number into a sum of numbers
+
+-- a number times a number, and what is none as it is
+abbrev times_as : Ratio → Calc → Calc-F Calc → Calc
+times_as n c (Num w u) = tree.Num (mul n w) u
+times_as n c _ = c
+
+abbrev times_calc : Ratio → Calc → Calc
+times_calc n c = times_as n c (out-Calc c)
+
+abbrev times_number : Ratio → Head → Head
+times_number n (number w u) = number (mul n w) u
+times_number n h = h
+
+times_as_head : (n : Ratio) (c : Calc) (l : Calc-F Calc) → head c ≡ head_as l → head (times_as n c l) ≡ times_number n (head_as l)
+times_as_head n c (Num w u) e = head-Num (mul n w) u
+times_as_head n c (Sum cs) e = e
+times_as_head n c (Product cs) e = e
+times_as_head n c (Negate d) e = e
+times_as_head n c (Invert d) e = e
+times_as_head n c (Min cs) e = e
+times_as_head n c (Max cs) e = e
+times_as_head n c (Clamp a b d) e = e
+
+terms_scaled : (n : Ratio) (cs : List Calc) → nums_alone cs ≡ true → scaled_terms n cs ≡ Some (map (times_calc n) cs)
+terms_scaled n [] h = refl
+terms_scaled n (c ∷ cs) h = go (out-Calc c) h (λ k. terms_scaled n cs k)
+  where
+    go : (l : Calc-F Calc) → (is_num l && nums_alone cs) ≡ true → (nums_alone cs ≡ true → scaled_terms n cs ≡ Some (map (times_calc n) cs)) →
+        both_terms (scaled_term n l) (scaled_terms n cs) ≡ Some (times_as n c l ∷ map (times_calc n) cs)
+    go (Num w u) h more = ap (both_terms (Some (tree.Num (mul n w) u))) (more h)
+    go (Sum ds) h more = cc
+    go (Product ds) h more = cc
+    go (Negate d) h more = cc
+    go (Invert d) h more = cc
+    go (Min ds) h more = cc
+    go (Max ds) h more = cc
+    go (Clamp a b d) h more = cc
+
+heads_scaled : (n : Ratio) (cs : List Calc) → map head (map (times_calc n) cs) ≡ map (times_number n) (map head cs)
+heads_scaled n [] = refl
+heads_scaled n (c ∷ cs) = ap₂ (λ h hs. h ∷ hs) (times_as_head n c (out-Calc c) refl) (heads_scaled n cs)
+
+same_joined : (may : units.Unit → Bool) (n : Ratio) (h k : Head) → joinable may (times_number n h) (times_number n k) ≡ joinable may h k
+same_joined may n (number v u) (number w t) = refl
+same_joined may n (number v u) (heads.sum b) = refl
+same_joined may n (number v u) heads.product = refl
+same_joined may n (number v u) heads.negate = refl
+same_joined may n (number v u) heads.invert = refl
+same_joined may n (number v u) heads.least = refl
+same_joined may n (number v u) heads.greatest = refl
+same_joined may n (number v u) heads.clamp = refl
+same_joined may n (heads.sum b) k = refl
+same_joined may n heads.product k = refl
+same_joined may n heads.negate k = refl
+same_joined may n heads.invert k = refl
+same_joined may n heads.least k = refl
+same_joined may n heads.greatest k = refl
+same_joined may n heads.clamp k = refl
+
+same_after : (n : Ratio) (h : Head) (hs : List Head) → none_after any_unit (times_number n h) (map (times_number n) hs) ≡ none_after any_unit h hs
+same_after n h [] = refl
+same_after n h (k ∷ ks) = ap₂ (λ a b. not a && b) (same_joined any_unit n h k) (same_after n h ks)
+
+same_pairs : (n : Ratio) (hs : List Head) → pairs_apart any_unit (map (times_number n) hs) ≡ pairs_apart any_unit hs
+same_pairs n [] = refl
+same_pairs n (h ∷ hs) = ap₂ (λ a b. a && b) (same_after n h hs) (same_pairs n hs)
+
+same_sum : (n : Ratio) (h : Head) → is_sum (times_number n h) ≡ is_sum h
+same_sum n (number v u) = refl
+same_sum n (heads.sum b) = refl
+same_sum n heads.product = refl
+same_sum n heads.negate = refl
+same_sum n heads.invert = refl
+same_sum n heads.least = refl
+same_sum n heads.greatest = refl
+same_sum n heads.clamp = refl
+
+same_negate : (n : Ratio) (h : Head) → is_negate (times_number n h) ≡ is_negate h
+same_negate n (number v u) = refl
+same_negate n (heads.sum b) = refl
+same_negate n heads.product = refl
+same_negate n heads.negate = refl
+same_negate n heads.invert = refl
+same_negate n heads.least = refl
+same_negate n heads.greatest = refl
+same_negate n heads.clamp = refl
+
+same_number : (n : Ratio) (h : Head) → heads.is_number (times_number n h) ≡ heads.is_number h
+same_number n (number v u) = refl
+same_number n (heads.sum b) = refl
+same_number n heads.product = refl
+same_number n heads.negate = refl
+same_number n heads.invert = refl
+same_number n heads.least = refl
+same_number n heads.greatest = refl
+same_number n heads.clamp = refl
+
+same_flat : (n : Ratio) (hs : List Head) → no_sums (map (times_number n) hs) ≡ no_sums hs
+same_flat n [] = refl
+same_flat n (h ∷ hs) = ap₂ (λ a b. not a && b) (same_sum n h) (same_flat n hs)
+
+same_has : (n : Ratio) (hs : List Head) → has_number (map (times_number n) hs) ≡ has_number hs
+same_has n [] = refl
+same_has n (h ∷ hs) = ap₂ (λ a b. a || b) (same_number n h) (same_has n hs)
+
+same_starts : (n : Ratio) (hs : List Head) → starts (map (times_number n) hs) ≡ starts hs
+same_starts n [] = refl
+same_starts n (h ∷ hs) = ap₂ (λ a b. a || not b) (same_has n (h ∷ hs)) (same_negate n h)
+
+length_map : {A B : Type 0} (f : A → B) (xs : List A) → length (map f xs) ≡ length xs
+length_map f [] = refl
+length_map f (x ∷ xs) = ap (λ n. suc n) (length_map f xs)
+
+scaled_row : (n : Ratio) (cs : List Calc) → IsRow (map head cs) → IsRow (map head (map (times_calc n) cs))
+scaled_row n cs r = subst IsRow (sym (heads_scaled n cs)) (record {
+  two = subst (λ (k : ℕ). 2 ≤ k) (sym (length_map (times_number n) (map head cs))) r.two;
+  differ = same_pairs n (map head cs) ∙ r.differ;
+  flat = same_flat n (map head cs) ∙ r.flat;
+  begins = same_starts n (map head cs) ∙ r.begins;
+})
+
+scaled_as_term : (n : Ratio) (c : Calc) (l : Calc-F Calc) → head c ≡ head_as l → IsTerm c → IsTerm (times_as n c l)
+scaled_as_term n c (Num w u) e t = plus (measure (mul n w) (term_measure t w u e))
+scaled_as_term n c (Sum cs) e t = t
+scaled_as_term n c (Product cs) e t = t
+scaled_as_term n c (Negate d) e t = t
+scaled_as_term n c (Invert d) e t = t
+scaled_as_term n c (Min cs) e t = t
+scaled_as_term n c (Max cs) e t = t
+scaled_as_term n c (Clamp a b d) e t = t
+
+scaled_are : (n : Ratio) (cs : List Calc) → AreTerms cs → AreTerms (map (times_calc n) cs)
+scaled_are n [] no_terms = no_terms
+scaled_are n (c ∷ cs) (terms t ts) = terms (scaled_as_term n c (out-Calc c) refl t) (scaled_are n cs ts)
