@@ -6,6 +6,7 @@ pub mod Decimals
 pub mod Digits
 pub mod Equations
 pub mod FormRows
+pub mod Formed
 pub mod Forms
 pub mod Heads
 pub mod Known

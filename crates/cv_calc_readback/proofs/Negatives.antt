@@ -88,7 +88,7 @@ measure_term {u} c v within =
 abbrev pub may_be_taken : Head → Bool
 may_be_taken h = not (is_number h) && not (is_negate h)
 
-negated_as_stays : (c : Calc) (l : Calc-F Calc) → may_be_taken (head_as l) ≡ true → simplified.negated_as c l ≡ tree.Negate c
+pub negated_as_stays : (c : Calc) (l : Calc-F Calc) → may_be_taken (head_as l) ≡ true → simplified.negated_as c l ≡ tree.Negate c
 negated_as_stays c (Num v u) h = cc
 negated_as_stays c (Negate d) h = cc
 negated_as_stays c (Sum ds) h = refl

@@ -20,7 +20,7 @@ use Rattle.cv_calc_readback.proofs.Heads.{Head, number, head, head_as, head-Num,
 use Rattle.cv_calc_readback.proofs.Heads as heads
 use Rattle.cv_calc_readback.proofs.Negatives.{Measure, px, percent}
 use Rattle.cv_calc_readback.proofs.Orders.{none_after, pairs_apart, number_is}
-use Rattle.cv_calc_readback.proofs.Products.{times_head, multiplied_stays}
+use Rattle.cv_calc_readback.proofs.Products.{times_head, scaled_none}
 use Rattle.cv_calc_readback.proofs.RowOrders.{IsRow, starts, has_number}
 use Rattle.cv_calc_readback.proofs.Sums.{no_sums}
 
@@ -305,3 +305,69 @@ scaled_as_term n c (Clamp a b d) e t = t
 scaled_are : (n : Ratio) (cs : List Calc) → AreTerms cs → AreTerms (map (times_calc n) cs)
 scaled_are n [] no_terms = no_terms
 scaled_are n (c ∷ cs) (terms t ts) = terms (scaled_as_term n c (out-Calc c) refl t) (scaled_are n cs ts)
+
+-- ---- the product
+
+-- a number times a calculation is a form, or isn't multiplied
+data Scaled (n : Ratio) (z : Calc) : Type 0 where
+  made : (e : Calc) → scaled n z ≡ Some e → IsForm e → Scaled n z
+  left : scaled n z ≡ None → times_head (head z) ≡ true → Scaled n z
+
+left_as : (n : Ratio) (z : Calc) → times_head (head z) ≡ true → Scaled n z
+left_as n z h = left (scaled_none n (out-Calc z) h) h
+
+not_other : {A : Type 0} (z : Calc) → head z ≡ heads.product → other_head (head z) ≡ true → A
+not_other z e h = absurd (apart (sym (ap other_head e) ∙ h))
+  where
+    apart : ◌≡◌ {A = Bool} false true → ⊥
+    apart e = cc
+
+sum_scaled : (n : Ratio) (cs : List Calc) → AreTerms cs → IsRow (map head cs) → (b : Bool) → nums_alone cs ≡ b → Scaled n (tree.Sum cs)
+sum_scaled n cs t r true e =
+    made (tree.Sum (map (times_calc n) cs)) (ap (scaled_as n) (out-Sum cs) ∙ ap (option_map tree.Sum) (terms_scaled n cs e)) (sum (scaled_are n cs t) (scaled_row n cs r))
+sum_scaled n cs t r false e = left_as n (tree.Sum cs) (ap times_head (head-Sum cs) ∙ ap not e)
+
+scaled_form : (n : Ratio) {z : Calc} → IsForm z → other_head (head z) ≡ true → Scaled n z
+scaled_form n (measure {u} v m) h = made (tree.Num (mul n v) u) (ap (scaled_as n) (out-Num v u)) (measure (mul n v) m)
+scaled_form n (sum {cs} t r) h = sum_scaled n cs t r (nums_alone cs) refl
+scaled_form n (product k {x} t f) h = not_other (tree.Product (plain k ∷ x ∷ [])) (head-Product (plain k ∷ x ∷ [])) h
+scaled_form n (turned k {x} t f) h = not_other (tree.Product (x ∷ plain k ∷ [])) (head-Product (x ∷ plain k ∷ [])) h
+scaled_form n (least {c} {d} {cs} f a) h = left_as n (tree.Min (c ∷ d ∷ cs)) (ap times_head (head-Min (c ∷ d ∷ cs)))
+scaled_form n (greatest {c} {d} {cs} f a) h = left_as n (tree.Max (c ∷ d ∷ cs)) (ap times_head (head-Max (c ∷ d ∷ cs)))
+scaled_form n (limited {a} {b} {c} f g i j) h = left_as n (tree.Clamp a b c) (ap times_head (head-Clamp a b c))
+
+number_of_plain : (n : Ratio) → number_of (plain n) ≡ Some n
+number_of_plain n = ap number_as (out-Num n Number)
+
+number_of_other : (l : Calc-F Calc) → other_head (head_as l) ≡ true → number_as l ≡ None
+number_of_other (Num v u) h = go (is_number u) h
+  where
+    go : (b : Bool) → not b ≡ true → (if b then Some v else None) ≡ None
+    go true h = cc
+    go false h = refl
+number_of_other (Sum cs) h = refl
+number_of_other (Product cs) h = refl
+number_of_other (Negate d) h = refl
+number_of_other (Invert d) h = refl
+number_of_other (Min cs) h = refl
+number_of_other (Max cs) h = refl
+number_of_other (Clamp a b d) h = refl
+
+before_form : (n : Ratio) (z : Calc) → Other z → Scaled n z → IsForm (or_else (scaled n z) (tree.Product (plain n ∷ z ∷ [])))
+before_form n z o (made e is f) = subst (λ (p : Option Calc). IsForm (or_else p (tree.Product (plain n ∷ z ∷ [])))) (sym is) f
+before_form n z o (left is h) = subst (λ (p : Option Calc). IsForm (or_else p (tree.Product (plain n ∷ z ∷ [])))) (sym is) (product n h o.form)
+
+behind_form : (n : Ratio) (z : Calc) → Other z → Scaled n z → IsForm (or_else (scaled n z) (tree.Product (z ∷ plain n ∷ [])))
+behind_form n z o (made e is f) = subst (λ (p : Option Calc). IsForm (or_else p (tree.Product (z ∷ plain n ∷ [])))) (sym is) f
+behind_form n z o (left is h) = subst (λ (p : Option Calc). IsForm (or_else p (tree.Product (z ∷ plain n ∷ [])))) (sym is) (turned n h o.form)
+
+mixed_form : (row : List Calc) → Mixed row → IsForm (product_as row)
+mixed_form _ (alone z o) = o.form
+mixed_form _ (before n z o) =
+    subst (λ (p : Option Ratio). IsForm (or_else (scaled_pair p (number_of z) (plain n) z) (tree.Product (plain n ∷ z ∷ [])))) (sym (number_of_plain n)) (before_form n z o (scaled_form n o.form o.kind))
+mixed_form _ (behind z n o) =
+    subst (λ (p : Option Ratio). IsForm (or_else (scaled_pair p (number_of (plain n)) z (plain n)) (tree.Product (z ∷ plain n ∷ [])))) (sym (number_of_other (out-Calc z) o.kind))
+        (subst (λ (p : Option Ratio). IsForm (or_else (scaled_pair None p z (plain n)) (tree.Product (z ∷ plain n ∷ [])))) (sym (number_of_plain n)) (behind_form n z o (scaled_form n o.form o.kind)))
+
+pub multiplied_form : (ds : List Calc) → AllButOne (IsNum Number) IsForm ds → IsForm (multiplied ds)
+multiplied_form ds k = mixed_form (product_row ds) (mixed_row [] ds nothing k)

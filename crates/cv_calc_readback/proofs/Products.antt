@@ -92,7 +92,7 @@ terms_none n (c ∷ cs) h = go (out-Calc c) h (terms_none n cs)
     go (Max ds) h ih = refl
     go (Clamp a b d) h ih = refl
 
-scaled_none : (n : Ratio) (l : Calc-F Calc) → times_head (head_as l) ≡ true → simplified.scaled_as n l ≡ None
+pub scaled_none : (n : Ratio) (l : Calc-F Calc) → times_head (head_as l) ≡ true → simplified.scaled_as n l ≡ None
 scaled_none n (Num v u) h = cc
 scaled_none n (Sum cs) h = ap (option_map tree.Sum) (terms_none n cs (off (nums_alone cs) h))
   where
