@@ -1,5 +1,6 @@
 pub mod Answered
 pub mod Back
+pub mod Calculations
 pub mod Choices
 pub mod Composites
 pub mod Decimals
