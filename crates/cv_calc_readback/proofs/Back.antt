@@ -34,7 +34,10 @@ use Rattle.cv_calc_readback.proofs.Equations.{counted_simple, inside-Num}
 use Rattle.cv_calc_readback.proofs.Forms.{IsForm, measure, sum, product, turned, least, greatest, limited, form_known}
 use Rattle.cv_calc_readback.proofs.Known.{Facts, Opening}
 use Rattle.cv_calc_readback.proofs.Lines.{call_value, call_narrow}
-use Rattle.cv_calc_readback.proofs.Mixed.{Kind, kind_type, model, model_kind, model_fits}
+use Rattle.cv_calc_laws.specs.Single.{is_length_percentage}
+use Rattle.cv_calc_readback.proofs.Heads.{head, head-Num}
+use Rattle.cv_calc_readback.proofs.Orders.{number_is}
+use Rattle.cv_calc_readback.proofs.Mixed.{Kind, kind_type, kind_taken, model, model_kind, model_fits}
 use Rattle.cv_calc_readback.proofs.Negatives.{Measure, px, percent, measure_canonical, measure_suits}
 use Rattle.cv_calc_readback.proofs.Numbers.{alone_back}
 use Rattle.cv_calc_readback.proofs.Numerals.{narrow}
@@ -61,15 +64,18 @@ reads_as_equal : (s : Calc) (k : Known s) → Top s k.opened.read → ReadsAsEqu
 reads_as_equal s k t =
     let f = k.opened.facts in
     let typed : type_of k.opened.read ≡ Some (kind_type k.kind) = type_as k.opened.read k.kind f.read_shape in
-    let same : type_of s ≡ Some (kind_type k.kind) = type_as s k.kind f.written_shape in
     record {
       tree = k.opened.read;
+      kind = kind_type k.kind;
       read = answered (calc_text s) k.opened.read (kind_type k.kind) t.begins t.value typed t.small f.fine;
       linear = linear_as k.opened.read (model k.kind) f.read_shape (model_linear k.kind);
-      typed = typed ∙ sym same;
+      taken = kind_taken k.kind;
+      typed = typed;
+      given_typed = type_as s k.kind f.written_shape;
       in_range = λ y b. ap (λ (c : Counted). c.in_range) (f.counts y b);
-      simple_typed = λ y b. ap type_of (simple_is y b) ∙ type_as k.simple k.kind f.simple_shape ∙ sym same;
+      simple_typed = λ y b. ap type_of (simple_is y b) ∙ type_as k.simple k.kind f.simple_shape;
       simple_value = λ y b m. ap (value m) (simple_is y b) ∙ f.means m;
+      simple_number = λ y b v u e. number_is s v u (sym f.same ∙ ap head (sym (simple_is y b) ∙ e) ∙ head-Num v u);
     }
   where
     simple_is : (y : Context) → lp y → simp y k.opened.read ≡ k.simple
@@ -138,22 +144,30 @@ number_text : (v : Ratio) (u : units.Unit) → calc_text (tree.Num v u) ≡ numb
 unfolding calc_text
 number_text v u = ap (calc_text_as (tree.Num v u)) (out-Num v u)
 
+measure_type : {u : units.Unit} → Measure u → (v : Ratio) → type_of (tree.Num v u) ≡ Some (unit_type u)
+measure_type {u} m v = sym (kind_is_type (tree.Num v u)) ∙ ap (λ s. s.kind) (shape-Num v u)
+
+measure_taken : {u : units.Unit} → Measure u → is_length_percentage (unit_type u) ≡ true
+measure_taken px = refl
+measure_taken percent = refl
+
 number_back : {u : units.Unit} (v : Ratio) → Measure u → in_bounds v ≡ true → ReadsBack (tree.Num v u) (calc_text (tree.Num v u))
 number_back {u} v m within = subst (ReadsBack (tree.Num v u)) (sym (number_text v u)) (go (alone_back v u within (measure_canonical m)))
   where
-    typed : type_of (tree.Num v u) ≡ Some (unit_type u)
-    typed = sym (kind_is_type (tree.Num v u)) ∙ ap (λ s. s.kind) (shape-Num v u)
-
     go : NumberReadsBack v u (number_alone v u) → ReadsBack (tree.Num v u) (number_alone v u)
     go (numeral n) = number v u refl n
     go (quotient r) = calculation (record {
       tree = r.tree;
+      kind = unit_type u;
       read = r.read;
       linear = r.linear;
-      typed = r.typed ∙ sym typed;
+      taken = measure_taken m;
+      typed = r.typed;
+      given_typed = measure_type m v;
       in_range = λ y b. r.in_range y (measure_suits m y b);
-      simple_typed = λ y b. ap type_of (r.simple y (measure_suits m y b));
+      simple_typed = λ y b. ap type_of (r.simple y (measure_suits m y b)) ∙ measure_type m v;
       simple_value = λ y b q. ap (value q) (r.simple y (measure_suits m y b));
+      simple_number = λ y b w t e. sym (r.simple y (measure_suits m y b)) ∙ e;
     })
 
 -- ---- the whole

@@ -23,7 +23,7 @@ use Rattle.cv_calc_laws.specs.Single.{is_length_percentage}
 use Rattle.cv_calc_laws.proofs.Answered as answers
 use Rattle.cv_calc_laws.proofs.AnsweredNumbers.{answers_have_values, meaning_of, meaning_agrees}
 use Rattle.cv_calc_laws.proofs.TypedTrees.{IsLength}
-use Rattle.cv_calc_readback.specs.ReadsBack.{IsLengthPercentage, length, percent, mixed, length_type, percent_type, mixed_type, ReadsBack, CalculationsReadBack}
+use Rattle.cv_calc_readback.specs.ReadsBack.{CalculationsReadBack}
 use Rattle.cv_calc_readback.proofs.Back.{form_back}
 use Rattle.cv_calc_readback.proofs.Digits.{and_true}
 use Rattle.cv_calc_readback.proofs.Equations.{counted_simple}
@@ -41,16 +41,12 @@ range_inside x c h =
     let is : counted x c ≡ counted_step x l = ap (counted x) (sym (roll-out-Calc c)) ∙ fold-roll-Calc Counted (counted_step x) (out-Calc c) in
     ap inside (sym (counted_simple x c) ∙ ap (λ (k : Counted). k.simple) is) ∙ step_inside x l (sym (ap (λ (k : Counted). k.in_range) is) ∙ h)
 
-taken : (c : Calc) (o : Option NumType) → type_of c ≡ o → IsLengthPercentage o → IsLength (shape c)
-taken c _ e length = (length_type, kind_is_type c ∙ e, refl)
-taken c _ e percent = (percent_type, kind_is_type c ∙ e, refl)
-taken c _ e mixed = (mixed_type, kind_is_type c ∙ e, refl)
-
 pub calculations_read_back : CalculationsReadBack
 unfolding is_linear
 calculations_read_back = record {
-  reads = λ ts c x e linear taken_as basis range.
-      let read : ReadsAs exact_number ts c = grammar_is_read.only exact_number ts c (answers.answered ts c e).tree in
-      let has = answers_have_values ts c e linear (meaning_of x) in
-      form_back (formed (meaning_of x) x (meaning_agrees x) basis c (taken c (type_of c) refl taken_as) (and_true (has_type (shape c).kind) (shape c).fits linear).1 has (value_placed exact_number read.1.1)) (range_inside x c range);
+  reads = λ x ts c r.
+      let read : ReadsAs exact_number ts c = grammar_is_read.only exact_number ts c (answers.answered ts c r.read).tree in
+      let has = answers_have_values ts c r.read r.linear (meaning_of x) in
+      let fits = (and_true (has_type (shape c).kind) (shape c).fits r.linear).1 in
+      form_back (formed (meaning_of x) x (meaning_agrees x) r.basis c (r.kind, kind_is_type c ∙ r.typed, r.taken) fits has (value_placed exact_number read.1.1)) (range_inside x c r.in_range);
 }

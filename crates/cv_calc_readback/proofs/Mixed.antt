@@ -10,7 +10,9 @@ use Rattle.cv_calc.specs.Types.{added, tried_all}
 use Rattle.cv_calc.specs.Linear.{added_shape, sum_shape, unit_shape, shape}
 use Rattle.cv_calc.proofs.Shapes.{shape-Num, shape-Sum}
 use Rattle.std.proofs.Math.Path.{ap₂}
-use Rattle.cv_calc_readback.specs.ReadsBack.{length_type, percent_type, mixed_type}
+use Rattle.cv_calc.specs.declared.unit.Base.TheVariants.{Length}
+use Rattle.cv_calc.specs.Types.{unit_type}
+use Rattle.cv_calc_laws.specs.Single.{is_length_percentage}
 
 pub data Kind : Type 0 where
   lengths : Kind
@@ -18,9 +20,14 @@ pub data Kind : Type 0 where
   mixed : Kind
 
 abbrev pub kind_type : Kind → NumType
-kind_type lengths = length_type
-kind_type percents = percent_type
-kind_type mixed = mixed_type
+kind_type lengths = unit_type Px
+kind_type percents = unit_type Percent
+kind_type mixed = record (unit_type Px) { hint = Some Length }
+
+pub kind_taken : (k : Kind) → is_length_percentage (kind_type k) ≡ true
+kind_taken lengths = refl
+kind_taken percents = refl
+kind_taken mixed = refl
 
 -- a calculation of the kind
 abbrev pub model : Kind → Calc

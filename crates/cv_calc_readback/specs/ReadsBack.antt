@@ -1,13 +1,12 @@
 -- The text of a calculation reads back as an equal calculation (CSSOM, "Serializing CSS Values", whose texts have to parse to equal
 -- values; the texts are those of CSS Values and Units 4, "Serialization").
-use Rattle.std.specs.Prelude.{◌≡◌, true, ℕ, List, [], ◌∷◌, Ok, Some, Option, None}
+use Rattle.std.specs.Prelude.{◌≡◌, true, ℕ, List, [], ◌∷◌, Ok, Some}
 use Rattle.cv_spec_text.specs.declared.token.Token.{Token}
 use Rattle.cv_ratio.specs.Ratio.{Ratio}
 use Rattle.cv_frac.specs.Bounded.{in_bounds}
 use Rattle.cv_calc.specs.declared.unit.Unit as units
-use Rattle.cv_calc.specs.declared.unit.Unit.TheVariants.{Percent, Px}
+use Rattle.cv_calc.specs.declared.unit.Unit.TheVariants.{Percent}
 use Rattle.cv_calc.specs.declared.unit.NumType.{NumType}
-use Rattle.cv_calc.specs.declared.unit.Base.TheVariants as base
 use Rattle.cv_calc.specs.declared.context.Basis.{Basis}
 use Rattle.cv_calc.specs.declared.context.Basis.TheVariants.{Length, Of}
 use Rattle.cv_calc.specs.declared.context.Context.{Context}
@@ -22,6 +21,7 @@ use Rattle.cv_simplify.specs.Canonical.{is_canonical}
 use Rattle.cv_simplify.specs.Counted.{is_in_range}
 use Rattle.cv_simplify.specs.Simplified.{simp}
 use Rattle.cv_simplify.specs.Text.{numeric, number_alone, calc_text}
+use Rattle.cv_calc_laws.specs.Single.{is_length_percentage}
 
 -- the token means the number, and is in range
 pub record IsNumeral (v : Ratio) (u : units.Unit) (ts : List Token) : Type 0 where
@@ -56,37 +56,35 @@ pub record NumbersReadBack : Type 0 where
 
 -- ---- calculations of lengths and percentages
 
--- the type is one that a length-percentage has (CSS Values and Units 4, "Mixing Percentages and Dimensions")
-abbrev pub length_type : NumType
-length_type = unit_type Px
-
-abbrev pub percent_type : NumType
-percent_type = unit_type Percent
-
-abbrev pub mixed_type : NumType
-mixed_type = record (unit_type Px) { hint = Some base.Length }
-
-pub data IsLengthPercentage : Option NumType → Type 0 where
-  length : IsLengthPercentage (Some length_type)
-  percent : IsLengthPercentage (Some percent_type)
-  mixed : IsLengthPercentage (Some mixed_type)
-
--- the list reads as a linear calculation of the same type, which is in range and means the same, simplified too, whatever a percentage
--- is a part of
+-- the list reads as a linear calculation of the type of a length-percentage (CSS Values and Units 4, "Mixing Percentages and Dimensions"),
+-- which is in range and simplifies to one of the same type and value, whatever a percentage is a part of, and to no other number
 pub record ReadsAsEqual (s : Calc) (ts : List Token) : Type 0 where
   pub tree : Calc
+  pub kind : NumType
   pub read : answer ts ≡ Ok tree
   pub linear : is_linear tree ≡ true
-  pub typed : type_of tree ≡ type_of s
+  pub taken : is_length_percentage kind ≡ true
+  pub typed : type_of tree ≡ Some kind
+  pub given_typed : type_of s ≡ Some kind
   pub in_range : (y : Context) → y.basis ≡ Length → is_in_range y tree ≡ true
-  pub simple_typed : (y : Context) → y.basis ≡ Length → type_of (simp y tree) ≡ type_of s
+  pub simple_typed : (y : Context) → y.basis ≡ Length → type_of (simp y tree) ≡ Some kind
   pub simple_value : (y : Context) → y.basis ≡ Length → (m : Meaning) → value m (simp y tree) ≡ value m s
+  pub simple_number : (y : Context) → y.basis ≡ Length → (v : Ratio) (u : units.Unit) → simp y tree ≡ Num v u → s ≡ Num v u
 
 -- the text of a calculation is one token that means the number that it is, or a calculation that equals it
 pub data ReadsBack (s : Calc) (ts : List Token) : Type 0 where
   number : (v : Ratio) (u : units.Unit) → s ≡ Num v u → IsNumeral v u ts → ReadsBack s ts
   calculation : ReadsAsEqual s ts → ReadsBack s ts
 
+-- what the reader answers is a linear length-percentage that is in range, where a percentage is a part of a length that isn't known
+pub record IsRead (x : Context) (ts : List Token) (c : Calc) : Type 0 where
+  pub read : answer ts ≡ Ok c
+  pub linear : is_linear c ≡ true
+  pub kind : NumType
+  pub typed : type_of c ≡ Some kind
+  pub taken : is_length_percentage kind ≡ true
+  pub basis : x.basis ≡ Length
+  pub in_range : is_in_range x c ≡ true
+
 pub record CalculationsReadBack : Type 0 where
-  pub reads : (ts : List Token) (c : Calc) (x : Context) → answer ts ≡ Ok c → is_linear c ≡ true → IsLengthPercentage (type_of c) →
-      x.basis ≡ Length → is_in_range x c ≡ true → ReadsBack (simp x c) (calc_text (simp x c))
+  pub reads : (x : Context) (ts : List Token) (c : Calc) → IsRead x ts c → ReadsBack (simp x c) (calc_text (simp x c))
