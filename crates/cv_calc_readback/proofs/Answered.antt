@@ -62,9 +62,9 @@ narrow_place n (t ∷ ts) h = let p = and_true (not (is_wide t)) (narrow ts) h i
 
 pub answered : (ts : List Token) (c : Calc) (t : NumType) → BeginsFunction ts → ReadsValue exact_number ts [] c → type_of c ≡ Some t → narrow ts ≡ true → all_fine (evaluated c).marks ≡ true → answer ts ≡ Ok c
 unfolding answer
-answered ts c t begins value type small fine =
+answered ts c t starts value type small fine =
     let whole : ReadsValue exact_number (ts ++ replicate 0 (tokens.Close Round)) [] c = rw (append-nil ts) value in
-    let is : read exact_number ts ≡ Some c = grammar_is_read.reads exact_number ts c (begins, (0, whole)) in
+    let is : read exact_number ts ≡ Some c = grammar_is_read.reads exact_number ts c (starts, (0, whole)) in
     let wide : wide_place 0 ts ≡ None = narrow_place 0 ts small in
     let far : divisor_place (is_marked Far) (evaluated c).marks (divisor_places 0 ts) ≡ None = none_marked Far (inl refl) (evaluated c).marks (divisor_places 0 ts) fine in
     let null : divisor_place (is_marked Null) (evaluated c).marks (divisor_places 0 ts) ≡ None = none_marked Null (inr refl) (evaluated c).marks (divisor_places 0 ts) fine in

@@ -122,33 +122,32 @@ pub arguments_line : (g : Given) (gs : List Given) → arguments_of (map written
 arguments_line g gs = ap (λ ws. (fold (with_child Whole Argument) no_line ws).line) (written_calcs (g ∷ gs))
 
 module _ (opened : Opening_by) (comma : takes_comma opened ≡ true) where
-  line_further : (text : List Token) (ds : List Calc) (gs : List Given) → ((us rest : List Token) → us ≡ rest → ReadsArguments exact_number opened (text ++ us) rest ds) →
-      (rest : List Token) → ReadsArguments exact_number opened ((fold (with_child Whole Argument) (record { line = text; started = true }) (texts gs)).line ++ rest) rest (ds ++ reads gs)
-  line_further text ds [] h rest = subst (λ (cs : List Calc). ReadsArguments exact_number opened (text ++ rest) rest cs) (sym (append-nil ds)) (h rest rest refl)
-  line_further text ds (g ∷ gs) h rest =
+  -- a text that reads as some arguments, whatever follows it
+  abbrev Reads : List Token → List Calc → Type 0
+  Reads text ds = (rest : List Token) → ReadsArguments exact_number opened (text ++ rest) rest ds
+
+  first_read : (g : Given) → Reads ((written g.calc).at_place Whole) (g.known.opened.read ∷ [])
+  first_read g rest =
+      subst (λ (c : Calc). ReadsArguments exact_number opened ((written g.calc).at_place Whole ++ rest) rest (c ∷ [])) g.known.opened.opens.joined (argument (g.known.opened.opens.whole rest) none)
+
+  further_read : (text : List Token) (ds : List Calc) (g : Given) → Reads text ds → Reads (text ++ (written g.calc).at_place Argument) (ds ++ g.known.opened.read ∷ [])
+  further_read text ds g h rest =
       let o = g.known.opened.opens in
+      let behind : List Token = tokens.Comma ∷ tokens.White ∷ ((written g.calc).at_place Whole ++ rest) in
+      subst (λ (ts : List Token). ReadsArguments exact_number opened ts rest (ds ++ g.known.opened.read ∷ []))
+          (sym (append_assoc text ((written g.calc).at_place Argument) rest ∙ ap (λ (ts : List Token). text ++ (ts ++ rest)) o.argument))
+          (subst (λ (c : Calc). ReadsArguments exact_number opened (text ++ behind) rest (ds ++ c ∷ [])) o.joined (further comma (h behind) (white_terms (o.whole rest)) none))
+
+  line_further : (text : List Token) (ds : List Calc) (gs : List Given) → Reads text ds → Reads (fold (with_child Whole Argument) (record { line = text; started = true }) (texts gs)).line (ds ++ reads gs)
+  line_further text ds [] h rest = subst (λ (cs : List Calc). ReadsArguments exact_number opened (text ++ rest) rest cs) (sym (append-nil ds)) (h rest)
+  line_further text ds (g ∷ gs) h rest =
       let at = (written g.calc).at_place Argument in
-      let inner = (written g.calc).at_place Whole in
       subst (λ (cs : List Calc). ReadsArguments exact_number opened ((fold (with_child Whole Argument) (record { line = text ++ at; started = true }) (texts gs)).line ++ rest) rest cs)
           (append_assoc ds (g.known.opened.read ∷ []) (reads gs))
-          (line_further (text ++ at) (ds ++ g.known.opened.read ∷ []) gs (λ us r e. more us r e) rest)
-    where
-      split : (us : List Token) → (text ++ (written g.calc).at_place Argument) ++ us ≡ text ++ (tokens.Comma ∷ tokens.White ∷ ((written g.calc).at_place Whole ++ us))
-      split us = append_assoc text ((written g.calc).at_place Argument) us ∙ ap (λ (ts : List Token). text ++ (ts ++ us)) g.known.opened.opens.argument
+          (line_further (text ++ at) (ds ++ g.known.opened.read ∷ []) gs (further_read text ds g h) rest)
 
-      more : (us r : List Token) → us ≡ r → ReadsArguments exact_number opened ((text ++ (written g.calc).at_place Argument) ++ us) r (ds ++ g.known.opened.read ∷ [])
-      more us r e =
-          subst (λ (ts : List Token). ReadsArguments exact_number opened ts r (ds ++ g.known.opened.read ∷ [])) (ap (λ (vs : List Token). text ++ (tokens.Comma ∷ tokens.White ∷ ((written g.calc).at_place Whole ++ vs))) (sym e) ∙ sym (split us))
-              (subst (λ (c : Calc). ReadsArguments exact_number opened (text ++ (tokens.Comma ∷ tokens.White ∷ ((written g.calc).at_place Whole ++ r))) r (ds ++ c ∷ [])) g.known.opened.opens.joined
-                  (further comma (h (tokens.Comma ∷ tokens.White ∷ ((written g.calc).at_place Whole ++ r)) (tokens.Comma ∷ tokens.White ∷ ((written g.calc).at_place Whole ++ r)) refl) (white_terms (g.known.opened.opens.whole r)) none))
-
-  pub arguments_read : (g : Given) (gs : List Given) (rest : List Token) → ReadsArguments exact_number opened (line g gs ++ rest) rest (reads (g ∷ gs))
-  arguments_read g gs rest = line_further ((written g.calc).at_place Whole) (g.known.opened.read ∷ []) gs (λ us r e. first us r e) rest
-    where
-      first : (us r : List Token) → us ≡ r → ReadsArguments exact_number opened ((written g.calc).at_place Whole ++ us) r (g.known.opened.read ∷ [])
-      first us r e =
-          subst (λ (vs : List Token). ReadsArguments exact_number opened ((written g.calc).at_place Whole ++ vs) r (g.known.opened.read ∷ [])) (sym e)
-              (subst (λ (c : Calc). ReadsArguments exact_number opened ((written g.calc).at_place Whole ++ r) r (c ∷ [])) g.known.opened.opens.joined (argument (g.known.opened.opens.whole r) none))
+  arguments_read : (g : Given) (gs : List Given) → Reads (line g gs) (reads (g ∷ gs))
+  arguments_read g gs = line_further ((written g.calc).at_place Whole) (g.known.opened.read ∷ []) gs (first_read g)
 
 further_narrow : (text : List Token) (gs : List Given) → narrow text ≡ true → narrow (fold (with_child Whole Argument) (record { line = text; started = true }) (texts gs)).line ≡ true
 further_narrow text [] h = h

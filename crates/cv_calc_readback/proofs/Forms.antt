@@ -52,13 +52,14 @@ record Entries (cs : List Calc) : Type 0 where
   entries : List Entry
   same : calcs entries ≡ cs
 
-record Split (es : List Entry) (cs : List Calc) : Type 0 where
+-- two entries or more
+record Split (es : List Entry) : Type 0 where
   first : Entry
   second : Entry
   rest : List Entry
   order : es ≡ first ∷ second ∷ rest
 
-split_entries : (es : List Entry) (c d : Calc) (cs : List Calc) → calcs es ≡ c ∷ d ∷ cs → Split es (c ∷ d ∷ cs)
+split_entries : (es : List Entry) (c d : Calc) (cs : List Calc) → calcs es ≡ c ∷ d ∷ cs → Split es
 split_entries [] c d cs h = absurd cc
 split_entries (e ∷ []) c d cs h = absurd cc
 split_entries (e ∷ f ∷ es) c d cs h = record { first = e; second = f; rest = es; order = refl }
@@ -71,7 +72,7 @@ sum_of_row : (cs : List Calc) → Entries cs → Ordered cs → Known (Sum cs)
 sum_of_row cs n r =
     let es = n.entries in
     let sorted_calcs : calcs (sorted es) ≡ r.first ∷ r.second ∷ r.rest = in_ranks_map rank text_rank (λ (e : Entry). e.calc) (λ e. refl) 31 es ∙ ap in_text_order n.same ∙ r.order in
-    let s : Split (sorted es) (r.first ∷ r.second ∷ r.rest) = split_entries (sorted es) r.first r.second r.rest sorted_calcs in
+    let s : Split (sorted es) = split_entries (sorted es) r.first r.second r.rest sorted_calcs in
     let same_calcs : calcs (s.first ∷ s.second ∷ s.rest) ≡ r.first ∷ r.second ∷ r.rest = ap calcs (sym s.order) ∙ sorted_calcs in
     let same_heads : heads (s.first ∷ s.second ∷ s.rest) ≡ map head (r.first ∷ r.second ∷ r.rest) = heads_of (s.first ∷ s.second ∷ s.rest) ∙ ap (map head) same_calcs in
     let first_is : s.first.calc ≡ r.first = cc in
@@ -103,11 +104,6 @@ form_term (limited {a} {b} {c} f g i j) w k = composite_term _ (composite-Clamp 
 record Givens (cs : List Calc) : Type 0 where
   givens : List Given
   same : choices.calcs givens ≡ cs
-
-record TwoGivens (c d : Calc) (cs : List Calc) : Type 0 where
-  first : Known c
-  second : Known d
-  rest : Givens cs
 
 given_heads : (gs : List Given) → choices.heads gs ≡ map head (choices.calcs gs)
 given_heads [] = refl

@@ -24,6 +24,7 @@ pub mod Quotients
 pub mod Ranks
 pub mod ReadShapes
 pub mod RowOrders
+pub mod ScaledSums
 pub mod SumForms
 pub mod Sums
 pub mod Terms

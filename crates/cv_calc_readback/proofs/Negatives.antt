@@ -31,7 +31,7 @@ use Rattle.cv_calc_readback.proofs.Heads.{Head, number, negate, head, head_as, h
 use Rattle.cv_calc_readback.proofs.Known.{Facts, Opening, Adding}
 use Rattle.cv_calc_readback.proofs.Lines.{taken_adding}
 use Rattle.cv_calc_readback.proofs.Mixed.{Kind, lengths, percents, model}
-use Rattle.cv_calc_readback.proofs.Numbers.{Number', number_known, number_opens, AddedNumber, number_added_known}
+use Rattle.cv_calc_readback.proofs.Numbers.{KnownNumber, number_known, number_opens, AddedNumber, number_added_known}
 use Rattle.cv_calc_readback.proofs.Quotients.{suits}
 use Rattle.cv_calc_readback.proofs.Terms.{lp, Opened, Known, Term}
 
@@ -72,7 +72,7 @@ measured c v read f = record {
 
 number_opened : {u : units.Unit} (c : Measure u) (v : Ratio) → in_bounds v ≡ true → Opened (tree.Num v u) (tree.Num v u) (measure_kind c)
 number_opened {u} c v within =
-    let n : Number' v u = number_known v u within (measure_canonical c) in
+    let n : KnownNumber v u = number_known v u within (measure_canonical c) in
     record { read = n.read; opens = number_opens v u n.read n.tokens; facts = measured c v n.read n.facts }
 
 pub measure_known : {u : units.Unit} (c : Measure u) (v : Ratio) → in_bounds v ≡ true → Known (tree.Num v u)

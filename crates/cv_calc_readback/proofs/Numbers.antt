@@ -54,7 +54,7 @@ pub record Tokens (v : Ratio) (u : units.Unit) (read : Calc) : Type 0 where
   pub joined : one_or tree.Sum terms ≡ read
 
 -- with the facts of what they read as
-pub record Number' (v : Ratio) (u : units.Unit) : Type 0 where
+pub record KnownNumber (v : Ratio) (u : units.Unit) : Type 0 where
   pub read : Calc
   pub tokens : Tokens v u read
   pub facts : Facts (suits u) (tree.Num v u) read (tree.Num v u) (tree.Num v u)
@@ -102,10 +102,10 @@ quotient_tokens v u within h e =
       joined = refl;
     }
 
-pub number_known : (v : Ratio) (u : units.Unit) → in_bounds v ≡ true → is_canonical u ≡ true → Number' v u
+pub number_known : (v : Ratio) (u : units.Unit) → in_bounds v ≡ true → is_canonical u ≡ true → KnownNumber v u
 number_known v u within h = go (has_decimal v) refl
   where
-    go : (b : Bool) → has_decimal v ≡ b → Number' v u
+    go : (b : Bool) → has_decimal v ≡ b → KnownNumber v u
     go true e = record { read = tree.Num v u; tokens = numeral_tokens v u within h e; facts = numeral_facts v u within h }
     go false e = record {
       read = quotient v.top v.bottom u;
@@ -162,14 +162,14 @@ number_added_known v u within h = go (int_lt v.top (pos 0)) refl
   where
     go : (b : Bool) → int_lt v.top (pos 0) ≡ b → AddedNumber v u
     go false e =
-        let k : Number' v u = number_known v u within h in
+        let k : KnownNumber v u = number_known v u within h in
         record {
           read = k.read;
           adding = subst (λ (w : Written). Adding w k.read) (sym (written-Num v u)) (adds k e);
           facts = k.facts;
         }
       where
-        adds : (k : Number' v u) → int_lt v.top (pos 0) ≡ false → Adding (record { rank = unit_rank u; at_place = λ place. number_placed place v u }) k.read
+        adds : (k : KnownNumber v u) → int_lt v.top (pos 0) ≡ false → Adding (record { rank = unit_rank u; at_place = λ place. number_placed place v u }) k.read
         adds k e = record {
           added = λ {ts} {rest} {ds} r. added (subst (λ (us : List Token). ReadsTerms exact_number ts us ds) (text rest) r) none (factor none (k.tokens.operand rest));
           added_narrow = ap narrow (head_text e) ∙ k.tokens.operand_narrow;
@@ -181,14 +181,14 @@ number_added_known v u within h = go (int_lt v.top (pos 0)) refl
             text : (rest : List Token) → number_added v u ++ rest ≡ tokens.White ∷ tokens.Delim 0x2b ∷ tokens.White ∷ (number_tokens true v u ++ rest)
             text rest = ap (λ (ts : List Token). ts ++ rest) (head_text e)
     go true e =
-        let k : Number' (neg v) u = number_known (neg v) u (neg_inside v u within) h in
+        let k : KnownNumber (neg v) u = number_known (neg v) u (neg_inside v u within) h in
         record {
           read = tree.Negate k.read;
           adding = subst (λ (w : Written). Adding w (tree.Negate k.read)) (sym (written-Num v u)) (adds k e);
           facts = negated_facts v u k.read within k.facts;
         }
       where
-        adds : (k : Number' (neg v) u) → int_lt v.top (pos 0) ≡ true → Adding (record { rank = unit_rank u; at_place = λ place. number_placed place v u }) (tree.Negate k.read)
+        adds : (k : KnownNumber (neg v) u) → int_lt v.top (pos 0) ≡ true → Adding (record { rank = unit_rank u; at_place = λ place. number_placed place v u }) (tree.Negate k.read)
         adds k e = record {
           added = λ {ts} {rest} {ds} r. taken (subst (λ (us : List Token). ReadsTerms exact_number ts us ds) (text rest) r) none (factor none (k.tokens.operand rest));
           added_narrow = ap narrow (head_text e) ∙ k.tokens.operand_narrow;

@@ -38,7 +38,7 @@ use Rattle.cv_calc_readback.proofs.Heads.{Head, number, sum, product, negate, in
 use Rattle.cv_calc_readback.proofs.Known.{Facts, Opening}
 use Rattle.cv_calc_readback.proofs.Lines.{bracket_value, bracket_narrow}
 use Rattle.cv_calc_readback.proofs.Mixed.{Kind, lengths, percents, mixed, model, model_mixed}
-use Rattle.cv_calc_readback.proofs.Numbers.{Number', number_known, number_opens}
+use Rattle.cv_calc_readback.proofs.Numbers.{KnownNumber, number_known, number_opens}
 use Rattle.cv_calc_readback.proofs.Numerals.{narrow, narrow_append}
 use Rattle.cv_calc_readback.proofs.Terms.{lp, Known, fine_fold, all_each}
 
@@ -146,9 +146,6 @@ number_second mixed = rw model_mixed refl
 
 -- ---- values
 
-one_of : Option Ratio
-one_of = Some one_ratio
-
 swapped : (o p : Option Ratio) → both mul o (both mul p (Some one_ratio)) ≡ both mul p (both mul o (Some one_ratio))
 swapped None None = refl
 swapped None (Some b) = refl
@@ -169,7 +166,7 @@ as_last : (w : Written) → Composite w → w ≡ record { rank = 30; at_place =
 as_last w c = ap (λ (r : ℕ). record { rank = r; at_place = w.at_place }) c.rank
 
 module _ (n : Ratio) (x : Calc) (within : in_bounds n ≡ true) (h : times_head (head x) ≡ true) (composite : Composite (written x)) (k : Known x) where
-  abbrev numeral : Number' n Number
+  abbrev numeral : KnownNumber n Number
   numeral = number_known n Number within refl
 
   abbrev read : Calc

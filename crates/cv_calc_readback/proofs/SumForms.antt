@@ -53,21 +53,22 @@ starts_row c cs d h = go (has_number (map head (c ∷ cs))) refl
     go true e = some_starts (map head (joined_row (c ∷ cs) d)) (numbers_row (c ∷ cs) d e)
     go false e = first_kept (joined_by any_unit add c d) refl (sym (ap (λ b. b || not (is_negate (head c))) e) ∙ h)
 
-record Some_row (row : List Calc) : Type 0 where
+-- a row that isn't empty
+record Filled (row : List Calc) : Type 0 where
   first : Calc
   rest : List Calc
   same : row ≡ first ∷ rest
 
-row_some : (c : Calc) (cs : List Calc) (d : Calc) → Some_row (joined_row (c ∷ cs) d)
+row_some : (c : Calc) (cs : List Calc) (d : Calc) → Filled (joined_row (c ∷ cs) d)
 row_some c cs d = go (joined_by any_unit add c d)
   where
-    go : (o : Option Calc) → Some_row (join_first o c cs (joined_row cs d))
+    go : (o : Option Calc) → Filled (join_first o c cs (joined_row cs d))
     go (Some e) = record { first = e; rest = cs; same = refl }
     go None = record { first = c; rest = joined_row cs d; same = refl }
 
 row_more : (row : List Calc) (d : Calc) → Row row → IsTerm d → is_sum (head d) ≡ false → Row (joined_row row d)
 row_more row d r t s =
-    let n : Some_row (joined_row (r.first ∷ r.rest) d) = row_some r.first r.rest d in
+    let n : Filled (joined_row (r.first ∷ r.rest) d) = row_some r.first r.rest d in
     record {
       first = n.first;
       rest = n.rest;
