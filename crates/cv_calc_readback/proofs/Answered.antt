@@ -1,20 +1,18 @@
 -- A list that the grammar reads, whose numbers are in range and whose divisors are fine, is answered.
-use Rattle.std.specs.Prelude.{ℕ, Bool, true, false, ◌&&◌, not, ◌+◌, List, [], ◌∷◌, ◌++◌, Option, Some, None, Ok, replicate, if◌then◌else◌}
-use Rattle.std.proofs.Common.{◌≡◌, refl, sym, ◌∙◌, ap, ◌⊎◌, inl, inr}
+use Rattle.std.specs.Prelude.{ℕ, Bool, true, false, ◌&&◌, not, ◌+◌, List, [], ◌∷◌, ◌++◌, Some, None, Ok, replicate, if◌then◌else◌}
+use Rattle.std.proofs.Common.{◌≡◌, refl, ◌∙◌, ap, ◌⊎◌, inl, inr}
 use Rattle.std.proofs.lemmas.List.{append-nil}
 use Rattle.cv_spec_text.specs.declared.token.Token.{Token}
 use Rattle.cv_spec_text.specs.declared.token.Token.TheVariants as tokens
 use Rattle.cv_spec_text.specs.declared.token.Bracket.TheVariants.{Round}
 use Rattle.cv_calc.specs.declared.unit.NumType.{NumType}
 use Rattle.cv_calc.specs.declared.calc.Calc.{Calc}
-use Rattle.cv_calc.specs.declared.calc.Calc.TheVariants as tree
 use Rattle.cv_calc.specs.Types.{type_of}
 use Rattle.cv_calcread.specs.Answer.{is_wide, wide_place, divisor_places, is_marked, divisor_place, after_tree, typed, after_type, after_literals, after_range, answer}
-use Rattle.cv_calcread.specs.Figures.{Evaluated, evaluated, with_part, chosen_next}
-use Rattle.cv_calcread.specs.Grammar.{ReadsValue, ReadsAs, BeginsFunction}
+use Rattle.cv_calcread.specs.Figures.{evaluated}
+use Rattle.cv_calcread.specs.Grammar.{ReadsValue, BeginsFunction}
 use Rattle.cv_calcread.specs.Literals.{exact_number}
 use Rattle.cv_calcread.specs.Reading.{read}
-use Rattle.cv_calcread.specs.declared.figure.Joining.{Joining}
 use Rattle.cv_calcread.specs.declared.figure.Mark.{Mark}
 use Rattle.cv_calcread.specs.declared.figure.Mark.TheVariants.{Fine, Far, Null}
 use Rattle.cv_calcread.proofs.Whole.{grammar_is_read}

@@ -1,5 +1,5 @@
 -- The text of a simplified calculation of lengths and percentages reads back.
-use Rattle.std.specs.Prelude.{ℕ, map, Bool, true, false, ◌&&◌, List, [], ◌∷◌, ◌++◌, codes, Option, Some, None, Ok}
+use Rattle.std.specs.Prelude.{ℕ, map, true, ◌&&◌, List, [], ◌∷◌, ◌++◌, codes, Some}
 use Rattle.std.proofs.Common.{◌≡◌, refl, sym, ◌∙◌, ap, ap₂, subst}
 use Rattle.std.proofs.lemmas.List.{append-nil}
 use Rattle.cv_spec_text.specs.declared.token.Token.{Token}
@@ -8,31 +8,29 @@ use Rattle.cv_spec_text.specs.declared.token.Bracket.TheVariants.{Round}
 use Rattle.cv_ratio.specs.Ratio.{Ratio}
 use Rattle.cv_frac.specs.Bounded.{in_bounds}
 use Rattle.cv_calc.specs.declared.unit.Unit as units
-use Rattle.cv_calc.specs.declared.unit.Unit.TheVariants.{Number, Px, Percent}
-use Rattle.cv_calc.specs.declared.context.Basis.{Basis}
+use Rattle.cv_calc.specs.declared.unit.Unit.TheVariants.{Number}
 use Rattle.cv_calc.specs.declared.context.Context.{Context}
 use Rattle.cv_calc.specs.declared.calc.Calc.{Calc}
 use Rattle.cv_calc.specs.declared.calc.Calc.TheVariants as tree
 use Rattle.cv_calc.specs.Tree.{out-Num, out-Sum, out-Product, out-Min, out-Max, out-Clamp}
 use Rattle.cv_calc.specs.Linear.{shape, is_linear, has_type}
 use Rattle.cv_calc.specs.Types.{type_of, unit_type}
-use Rattle.cv_calc.specs.Value.{Meaning, value}
+use Rattle.cv_calc.specs.Value.{value}
 use Rattle.cv_calc.proofs.FoundTypes.{kind_is_type}
 use Rattle.cv_calc.proofs.Shapes.{shape-Num}
 use Rattle.cv_calcread.specs.declared.level.Opened.TheVariants as opening
 use Rattle.cv_calcread.specs.Grammar.{ReadsValue, ReadsArguments, argument, none, BeginsFunction, begins}
 use Rattle.cv_calcread.specs.Literals.{exact_number}
-use Rattle.cv_simplify.specs.Canonical.{is_canonical}
-use Rattle.cv_simplify.specs.Counted.{Counted, counted, inside, is_in_range}
+use Rattle.cv_simplify.specs.Counted.{Counted, inside}
 use Rattle.cv_simplify.specs.Simplified.{simp}
 use Rattle.cv_simplify.specs.Text.{Written, written, calc_text, calc_text_as, call, closing, number_alone, arguments_of}
 use Rattle.cv_simplify.specs.declared.place.Place.TheVariants.{Operand, Whole}
 use Rattle.cv_simplify.proofs.Texts.{written-Min, written-Max, written-Clamp}
-use Rattle.cv_calc_readback.specs.ReadsBack.{Keeps, IsNumeral, NumberReadsBack, numeral, quotient, ReadsBack, ReadsAsNumber, ReadsAsEqual, number, calculation}
-use Rattle.cv_calc_readback.proofs.Answered.{all_fine, answered}
+use Rattle.cv_calc_readback.specs.ReadsBack.{NumberReadsBack, numeral, quotient, ReadsBack, ReadsAsEqual, number, calculation}
+use Rattle.cv_calc_readback.proofs.Answered.{answered}
 use Rattle.cv_calc_readback.proofs.Equations.{counted_simple, inside-Num}
 use Rattle.cv_calc_readback.proofs.Forms.{IsForm, measure, sum, product, turned, least, greatest, limited, form_known}
-use Rattle.cv_calc_readback.proofs.Known.{Facts, Opening}
+use Rattle.cv_calc_readback.proofs.Known.{Opening}
 use Rattle.cv_calc_readback.proofs.Lines.{call_value, call_narrow}
 use Rattle.cv_calc_laws.specs.Single.{is_length_percentage}
 use Rattle.cv_calc_readback.proofs.Heads.{head, head-Num}
@@ -41,7 +39,7 @@ use Rattle.cv_calc_readback.proofs.Mixed.{Kind, kind_type, kind_taken, model, mo
 use Rattle.cv_calc_readback.proofs.Negatives.{Measure, px, percent, measure_canonical, measure_suits}
 use Rattle.cv_calc_readback.proofs.Numbers.{alone_back}
 use Rattle.cv_calc_readback.proofs.Numerals.{narrow}
-use Rattle.cv_calc_readback.proofs.Terms.{lp, Opened, Known}
+use Rattle.cv_calc_readback.proofs.Terms.{lp, Known}
 
 linear_as : (c d : Calc) → shape c ≡ shape d → is_linear d ≡ true → is_linear c ≡ true
 unfolding is_linear
@@ -88,14 +86,14 @@ within_calc s read o e = record {
   begins = subst BeginsFunction (sym e) (begins (codes "calc") ((written s).at_place Whole ++ closing));
   value = subst (λ (ts : List Token). ReadsValue exact_number ts [] read) (sym e)
       (subst (λ (ts : List Token). ReadsValue exact_number ts [] read) (append-nil (call (codes "calc") ((written s).at_place Whole)))
-          (call_value (codes "calc") opening.Calc ((written s).at_place Whole) (read ∷ []) read refl inner refl []));
+      (call_value (codes "calc") opening.Calc ((written s).at_place Whole) (read ∷ []) read refl inner refl []));
   small = ap narrow e ∙ call_narrow (codes "calc") ((written s).at_place Whole) o.whole_narrow;
 }
   where
     inner : (rest : List Token) → ReadsArguments exact_number opening.Calc ((written s).at_place Whole ++ tokens.Close Round ∷ rest) (tokens.Close Round ∷ rest) (read ∷ [])
     inner rest =
         subst (λ (c : Calc). ReadsArguments exact_number opening.Calc ((written s).at_place Whole ++ tokens.Close Round ∷ rest) (tokens.Close Round ∷ rest) (c ∷ [])) o.joined
-            (argument (o.whole (tokens.Close Round ∷ rest)) none)
+        (argument (o.whole (tokens.Close Round ∷ rest)) none)
 
 sum_text : (cs : List Calc) → calc_text (tree.Sum cs) ≡ call (codes "calc") ((written (tree.Sum cs)).at_place Whole)
 unfolding calc_text
@@ -136,7 +134,7 @@ max_top cs read o = by_itself (tree.Max cs) read (codes "max") (arguments_of (ma
 clamp_top : (a b c : Calc) (read : Calc) → Opening (written (tree.Clamp a b c)) read → Top (tree.Clamp a b c) read
 clamp_top a b c read o =
     by_itself (tree.Clamp a b c) read (codes "clamp") (arguments_of (written a ∷ written b ∷ written c ∷ [])) o (clamp_text a b c)
-        (ap (λ (w : Written). w.at_place Operand) (written-Clamp a b c)) (ap (λ (w : Written). w.at_place Whole) (written-Clamp a b c))
+    (ap (λ (w : Written). w.at_place Operand) (written-Clamp a b c)) (ap (λ (w : Written). w.at_place Whole) (written-Clamp a b c))
 
 -- ---- a number
 

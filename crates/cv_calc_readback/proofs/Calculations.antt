@@ -1,28 +1,20 @@
 -- The text of what a length-percentage simplifies to reads back.
-use Rattle.std.specs.Prelude.{Bool, true, false, ◌&&◌, List, Option, Some, None, Ok}
-use Rattle.std.proofs.Common.{◌≡◌, refl, sym, ◌∙◌, ap, subst}
-use Rattle.cv_spec_text.specs.declared.token.Token.{Token}
-use Rattle.cv_calc.specs.declared.unit.NumType.{NumType}
-use Rattle.cv_calc.specs.declared.context.Basis.TheVariants.{Length}
+use Rattle.std.specs.Prelude.{true}
+use Rattle.std.proofs.Common.{◌≡◌, sym, ◌∙◌, ap}
 use Rattle.cv_calc.specs.declared.context.Context.{Context}
 use Rattle.cv_calc.specs.declared.calc.Calc.{Calc}
 use Rattle.cv_calc.specs.declared.calc.Calc.TheOpen.{Calc-F}
-use Rattle.cv_calc.specs.declared.calc.Calc.TheViews.{out-Calc, roll-Calc, roll-out-Calc}
+use Rattle.cv_calc.specs.declared.calc.Calc.TheViews.{out-Calc, roll-out-Calc}
 use Rattle.cv_calc.specs.declared.calc.Calc.TheFolds.{fold-roll-Calc, map-Calc}
 use Rattle.cv_calc.specs.Linear.{shape, is_linear, has_type}
-use Rattle.cv_calc.specs.Types.{type_of}
 use Rattle.cv_calc.proofs.FoundTypes.{kind_is_type}
-use Rattle.cv_calcread.specs.Answer.{answer}
 use Rattle.cv_calcread.specs.Grammar.{ReadsAs}
 use Rattle.cv_calcread.specs.Literals.{exact_number}
 use Rattle.cv_calcread.proofs.Whole.{grammar_is_read}
 use Rattle.cv_simplify.specs.Counted.{Counted, counted, counted_step, counted_below, inside, is_in_range}
 use Rattle.cv_simplify.specs.Simplified.{simp}
-use Rattle.cv_simplify.specs.Text.{calc_text}
-use Rattle.cv_calc_laws.specs.Single.{is_length_percentage}
 use Rattle.cv_calc_laws.proofs.Answered as answers
 use Rattle.cv_calc_laws.proofs.AnsweredNumbers.{answers_have_values, meaning_of, meaning_agrees}
-use Rattle.cv_calc_laws.proofs.TypedTrees.{IsLength}
 use Rattle.cv_calc_readback.specs.ReadsBack.{CalculationsReadBack}
 use Rattle.cv_calc_readback.proofs.Back.{form_back}
 use Rattle.cv_calc_readback.proofs.Digits.{and_true}

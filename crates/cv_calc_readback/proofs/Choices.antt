@@ -1,47 +1,31 @@
 -- The least, the greatest, and what lies within limits, where nothing is compared: how their texts read, and that they stay.
-use Rattle.std.specs.Prelude.{ℕ, zero, suc, Bool, true, false, ◌&&◌, not, List, [], ◌∷◌, ◌++◌, fold, map, codes, Option, Some, None, if◌then◌else◌}
+use Rattle.std.specs.Prelude.{ℕ, true, List, [], ◌∷◌, ◌++◌, fold, map, Option, Some}
 use Rattle.std.proofs.Common.{◌≡◌, refl, sym, ◌∙◌, ap, ap₂, subst, append_assoc}
 use Rattle.std.proofs.lemmas.List.{append-nil}
 use Rattle.cv_spec_text.specs.declared.token.Token.{Token}
 use Rattle.cv_spec_text.specs.declared.token.Token.TheVariants as tokens
 use Rattle.cv_spec_text.specs.declared.token.Bracket.TheVariants.{Round}
-use Rattle.cv_ratio.specs.Ratio.{Ratio}
-use Rattle.cv_ratio.specs.Order.{lesser, greater}
-use Rattle.cv_calc.specs.declared.unit.Unit as units
-use Rattle.cv_calc.specs.declared.context.Basis.{Basis}
 use Rattle.cv_calc.specs.declared.context.Context.{Context}
 use Rattle.cv_calc.specs.declared.calc.Calc.{Calc}
-use Rattle.cv_calc.specs.declared.calc.Calc.TheVariants as tree
-use Rattle.cv_calc.specs.declared.calc.Calc.TheOpen.{Calc-F, Num, Sum, Product, Negate, Invert, Min, Max, Clamp}
-use Rattle.cv_calc.specs.declared.calc.Calc.TheViews.{out-Calc}
-use Rattle.cv_calc.specs.Unit.{same_unit}
-use Rattle.cv_calc.specs.Linear.{shape, sum_shape, added_shape}
-use Rattle.cv_calc.specs.Value.{Meaning, value, chosen_of, both}
-use Rattle.cv_calc.proofs.Shapes.{shape-Min, shape-Max, shape-Clamp}
+use Rattle.cv_calc.specs.Linear.{shape}
+use Rattle.cv_calc.specs.Value.{Meaning, value}
 use Rattle.cv_calcread.specs.Figures.{Evaluated, evaluated, with_part, chosen_next, or_undefined, chosen_of as evaluated_of}
 use Rattle.cv_calcread.specs.declared.figure.Joining.{Joining}
-use Rattle.cv_calcread.specs.declared.figure.Joining.TheVariants.{Least, Greatest}
 use Rattle.cv_calcread.specs.declared.level.Opened.{Opened as Opening_by}
-use Rattle.cv_calcread.specs.declared.level.Opened.TheVariants as opening
 use Rattle.cv_calcread.specs.Grammar.{ReadsValue, ReadsTerms, ReadsArguments, argument, further, term, factor, none}
 use Rattle.cv_calcread.specs.Literals.{exact_number}
-use Rattle.cv_calcread.specs.Reading.{one_or, takes_comma, made, opened_by}
-use Rattle.cv_calcread.proofs.Evaluations.{evaluated-Min, evaluated-Max, evaluated-Clamp}
-use Rattle.cv_simplify.specs.Counted.{Counted, counted, counted_step, inside, all_inside, children_in_range}
-use Rattle.cv_simplify.specs.Simplified as simplified
-use Rattle.cv_simplify.specs.Text.{Written, written, with_child, no_line, arguments_of, call, prefix}
-use Rattle.cv_simplify.specs.declared.place.Place.{Place}
-use Rattle.cv_simplify.specs.declared.place.Place.TheVariants.{Operand, Whole, Added, Multiplied, Argument}
-use Rattle.cv_simplify.proofs.Texts.{written-Min, written-Max, written-Clamp}
-use Rattle.cv_calc_readback.proofs.Answered.{all_fine, fine_append}
-use Rattle.cv_calc_readback.proofs.Digits.{and_true, both_true}
-use Rattle.cv_calc_readback.proofs.Equations.{counted-Min, counted-Max, counted-Clamp, inside-Min, inside-Max, inside-Clamp, value-Min, value-Max, value-Clamp}
-use Rattle.cv_calc_readback.proofs.Heads.{Head, number, head, head_as, head-Min, head-Max, head-Clamp, apart, row_apart}
-use Rattle.cv_calc_readback.proofs.Known.{Facts, Opening}
+use Rattle.cv_calcread.specs.Reading.{takes_comma, made, opened_by}
+use Rattle.cv_simplify.specs.Counted.{Counted, counted, inside, all_inside}
+use Rattle.cv_simplify.specs.Text.{Written, written, with_child, no_line, arguments_of, call}
+use Rattle.cv_simplify.specs.declared.place.Place.TheVariants.{Operand, Whole, Argument}
+use Rattle.cv_calc_readback.proofs.Answered.{all_fine}
+use Rattle.cv_calc_readback.proofs.Digits.{both_true}
+use Rattle.cv_calc_readback.proofs.Heads.{Head, head}
+use Rattle.cv_calc_readback.proofs.Known.{Opening}
 use Rattle.cv_calc_readback.proofs.Lines.{call_value, call_narrow, white_terms}
-use Rattle.cv_calc_readback.proofs.Mixed.{Kind, model, join, merged, joined_kind, joined_merged, sum_kinds, added_kinds}
+use Rattle.cv_calc_readback.proofs.Mixed.{Kind, model}
 use Rattle.cv_calc_readback.proofs.Numerals.{narrow, narrow_append}
-use Rattle.cv_calc_readback.proofs.Terms.{lp, Opened, Known, in_range, simple_of_all, children_all, fine_fold, all_each}
+use Rattle.cv_calc_readback.proofs.Terms.{lp, Known, in_range, fine_fold, all_each}
 
 -- ---- the arguments
 
@@ -135,16 +119,16 @@ module _ (opened : Opening_by) (comma : takes_comma opened ≡ true) where
       let o = g.known.opened.opens in
       let behind : List Token = tokens.Comma ∷ tokens.White ∷ ((written g.calc).at_place Whole ++ rest) in
       subst (λ (ts : List Token). ReadsArguments exact_number opened ts rest (ds ++ g.known.opened.read ∷ []))
-          (sym (append_assoc text ((written g.calc).at_place Argument) rest ∙ ap (λ (ts : List Token). text ++ (ts ++ rest)) o.argument))
-          (subst (λ (c : Calc). ReadsArguments exact_number opened (text ++ behind) rest (ds ++ c ∷ [])) o.joined (further comma (h behind) (white_terms (o.whole rest)) none))
+      (sym (append_assoc text ((written g.calc).at_place Argument) rest ∙ ap (λ (ts : List Token). text ++ (ts ++ rest)) o.argument))
+      (subst (λ (c : Calc). ReadsArguments exact_number opened (text ++ behind) rest (ds ++ c ∷ [])) o.joined (further comma (h behind) (white_terms (o.whole rest)) none))
 
   line_further : (text : List Token) (ds : List Calc) (gs : List Given) → Reads text ds → Reads (fold (with_child Whole Argument) (record { line = text; started = true }) (texts gs)).line (ds ++ reads gs)
   line_further text ds [] h rest = subst (λ (cs : List Calc). ReadsArguments exact_number opened (text ++ rest) rest cs) (sym (append-nil ds)) (h rest)
   line_further text ds (g ∷ gs) h rest =
       let at = (written g.calc).at_place Argument in
       subst (λ (cs : List Calc). ReadsArguments exact_number opened ((fold (with_child Whole Argument) (record { line = text ++ at; started = true }) (texts gs)).line ++ rest) rest cs)
-          (append_assoc ds (g.known.opened.read ∷ []) (reads gs))
-          (line_further (text ++ at) (ds ++ g.known.opened.read ∷ []) gs (further_read text ds g h) rest)
+      (append_assoc ds (g.known.opened.read ∷ []) (reads gs))
+      (line_further (text ++ at) (ds ++ g.known.opened.read ∷ []) gs (further_read text ds g h) rest)
 
   arguments_read : (g : Given) (gs : List Given) → Reads (line g gs) (reads (g ∷ gs))
   arguments_read g gs = line_further ((written g.calc).at_place Whole) (g.known.opened.read ∷ []) gs (first_read g)

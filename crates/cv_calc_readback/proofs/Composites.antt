@@ -1,13 +1,11 @@
 -- Calculations that are no numbers: they stand last among their siblings, and with brackets or a name of their own.
-use Rattle.std.specs.Prelude.{ℕ, Bool, true, false, List, [], ◌∷◌, ◌++◌, map}
-use Rattle.std.proofs.Common.{◌≡◌, refl, sym, ◌∙◌, ap, subst}
-use Rattle.cv_spec_text.specs.declared.token.Token.{Token}
+use Rattle.std.specs.Prelude.{List, ◌++◌}
+use Rattle.std.proofs.Common.{◌≡◌, refl, sym, subst}
 use Rattle.cv_calc.specs.declared.calc.Calc.{Calc}
 use Rattle.cv_calc.specs.declared.calc.Calc.TheVariants as tree
 use Rattle.cv_simplify.specs.Text.{Written, written, last_rank, operator}
-use Rattle.cv_simplify.specs.declared.place.Place.TheVariants.{Operand, Whole, Added, Multiplied, Argument}
+use Rattle.cv_simplify.specs.declared.place.Place.TheVariants.{Operand, Added, Multiplied}
 use Rattle.cv_simplify.proofs.Texts.{written-Sum, written-Product, written-Min, written-Max, written-Clamp}
-use Rattle.cv_calc_readback.proofs.Heads.{head, is_negate}
 use Rattle.cv_calc_readback.proofs.Lines.{plain_adding}
 use Rattle.cv_calc_readback.proofs.Terms.{Known, Term}
 

@@ -1,8 +1,7 @@
 -- The text of a fraction that has a decimal means the fraction.
-use Rattle.std.specs.Prelude.{ℕ, zero, suc, Bool, true, false, ◌&&◌, ◌==◌, nat_lt, int_lt, ◌+◌, ◌-◌, ◌*◌, ◌/◌, ◌%◌, ◌<◌, ◌≤◌, ◌^◌, ℤ, pos, negsuc, unsigned_abs, List, [], ◌∷◌, ◌++◌, length, replicate, codes, decimal, Option, Some, None, Ok, if◌then◌else◌}
-use Rattle.std.specs.Char.{is_ascii_digit, digit_value}
+use Rattle.std.specs.Prelude.{ℕ, zero, suc, Bool, true, false, ◌==◌, nat_lt, ◌+◌, ◌-◌, ◌*◌, ◌/◌, ◌%◌, ◌<◌, ◌≤◌, ◌^◌, ℤ, pos, negsuc, unsigned_abs, List, [], ◌∷◌, ◌++◌, length, replicate, codes, decimal, Option, Some, if◌then◌else◌}
+use Rattle.std.specs.Char.{digit_value}
 use Rattle.std.specs.Fmt.{signed_decimal}
-use Rattle.std.specs.Str.{all_ascii_digits}
 use Rattle.std.specs.Str.Parse.{digits_value, digits_value_after}
 use Rattle.std.proofs.Common.{◌≡◌, refl, sym, ◌∙◌, ap, ap₂, subst, arith, length-append, append_assoc, ◌⊎◌, inl, inr}
 use Rattle.std.proofs.Math.Nat.{mul-div_cancel, div-lt_iff_lt-mul, mul-lt-mul_of_pos_right}
@@ -17,12 +16,12 @@ use Rattle.cv_ratio.specs.Code.{ratio_self}
 use Rattle.cv_ratio.proofs.Laws.{ratio_cancel}
 use Rattle.cv_frac.specs.Bounded.{in_bounds}
 use Rattle.cv_frac.specs.Places.{first_from, has_places, decimal_places}
-use Rattle.cv_frac.specs.Text.{padded, minus_of, decimal_text, text_with, frac_text}
+use Rattle.cv_frac.specs.Text.{padded, decimal_text, text_with, frac_text}
 use Rattle.cv_frac.proofs.Tens.{ten_pos, ten_mono}
 use Rattle.cv_frac.proofs.Found.{places_small}
 use Rattle.cv_frac.proofs.Significant.{after_split}
-use Rattle.cv_frac.proofs.Reciprocal.{below_zero, signed_size}
-use Rattle.cv_calc_readback.proofs.Digits.{AreDigits, and_true, digits_append, Unsigned, unsigned_whole, unsigned_point, Spells, spells_plain, spells_minus}
+use Rattle.cv_frac.proofs.Reciprocal.{below_zero}
+use Rattle.cv_calc_readback.proofs.Digits.{AreDigits, and_true, Unsigned, unsigned_whole, unsigned_point, Spells, spells_plain, spells_minus}
 
 -- ---- the digits of a number
 
@@ -229,8 +228,8 @@ part_spelt s b n small some places few whole large =
       short = omega (arith, length-append (decimal (s / b)) (padded n part), p.size, whole_size s b n small some few large);
       value = λ negative.
           ap (λ m. ratio (signed negative m) (10 ^ n))
-              (value_append (decimal (s / b)) (padded n part) ∙ ap₂ (λ x y. x * 10 ^ length (padded n part) + y) (decimal_value (s / b) front) p.value ∙ ap (λ m. s / b * 10 ^ m + part) p.size
-              ∙ scaled_parts s b (10 ^ n) some whole)
+          (value_append (decimal (s / b)) (padded n part) ∙ ap₂ (λ x y. x * 10 ^ length (padded n part) + y) (decimal_value (s / b) front) p.value ∙ ap (λ m. s / b * 10 ^ m + part) p.size
+          ∙ scaled_parts s b (10 ^ n) some whole)
           ∙ ap (λ m. ratio (signed negative (s * (10 ^ n / b))) m) (power (10 ^ n) b whole)
           ∙ ratio_cancel negative s b (10 ^ n / b) some (above (10 ^ n) (10 ^ n / b) b (power (10 ^ n) b whole) (ten_pos n));
     }

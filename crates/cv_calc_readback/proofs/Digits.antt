@@ -1,18 +1,18 @@
 -- Digits, and the spelling of a number that is made of them (CSS Syntax 3, "Consume a number").
-use Rattle.std.specs.Prelude.{ℕ, zero, suc, Bool, true, false, ◌&&◌, ◌||◌, ◌==◌, nat_lt, not, ◌+◌, ◌-◌, ◌*◌, ◌<◌, ◌≤◌, ◌^◌, List, [], ◌∷◌, ◌++◌, length, take, drop, if◌then◌else◌, encode_utf8_all, encode_utf8, Ok}
+use Rattle.std.specs.Prelude.{ℕ, suc, Bool, true, false, ◌&&◌, ◌||◌, ◌==◌, nat_lt, ◌+◌, ◌-◌, ◌*◌, ◌<◌, ◌≤◌, ◌^◌, List, [], ◌∷◌, ◌++◌, length, take, drop, if◌then◌else◌, encode_utf8_all, encode_utf8}
 use Rattle.std.specs.List.{filter, prefix_len}
-use Rattle.std.specs.Char.{is_ascii_digit, digit_value}
+use Rattle.std.specs.Char.{is_ascii_digit}
 use Rattle.std.specs.Str.{all_ascii_digits}
 use Rattle.std.specs.Str.Parse.{digits_value}
-use Rattle.std.proofs.Common.{◌≡◌, refl, sym, ◌∙◌, ap, ap₂, arith, append_assoc, length-append}
+use Rattle.std.proofs.Common.{◌≡◌, refl, sym, ◌∙◌, ap, arith, length-append}
 use Rattle.std.proofs.Math.Seq.{drop-append_seam}
 use Rattle.std.proofs.lemmas.List.{drop_all, take_all, append-nil}
 use Rattle.std.proofs.lemmas.Str.{encode_ascii}
 use Rattle.std.proofs.lemmas.Bool.Decides.{nat_tests}
-use Rattle.cv_spec_text.specs.Characters.{hyphen, plus_sign, full_stop, begins_with, begins_by, is_sign}
-use Rattle.cv_spec_text.specs.Numbers.{digits_length, sign_length, fraction_length, mantissa_length, exponent_length, number_length}
+use Rattle.cv_spec_text.specs.Characters.{hyphen, plus_sign, full_stop, begins_with}
+use Rattle.cv_spec_text.specs.Numbers.{sign_length, fraction_length, mantissa_length, exponent_length, number_length}
 use Rattle.cv_ratio.specs.Ratio.{Ratio, ratio, signed}
-use Rattle.cv_frac.specs.Literal.{is_number, unsigned_part, mantissa_digits, fraction_digits, exponent_size, is_exponent_negative, exact_unsigned, exact, without_leading, without_trailing, unless_all_zero, significant, is_short, zero_digit}
+use Rattle.cv_frac.specs.Literal.{is_number, unsigned_part, mantissa_digits, exact_unsigned, exact, without_leading, without_trailing, unless_all_zero, significant, is_short, zero_digit}
 
 abbrev pub AreDigits : List ℕ → Type 0
 AreDigits ds = all_ascii_digits ds ≡ true
@@ -136,7 +136,7 @@ unsigned_point (d ∷ ds) (e ∷ es) some more h k =
     let tail : drop (length (d ∷ ds)) text ≡ rest = drop-append_seam (d ∷ ds) rest in
     let whole : mantissa_length text ≡ length text = mantissa_by text rest (length (d ∷ ds)) front tail fraction (length-append (d ∷ ds) rest) in
     let filtered : filter is_ascii_digit text ≡ (d ∷ ds) ++ e ∷ es =
-        filter_digits (d ∷ ds) rest h ∙ ap (λ (xs : List ℕ). (d ∷ ds) ++ xs) (ap (filter is_ascii_digit) (sym (append-nil (e ∷ es))) ∙ filter_digits (e ∷ es) [] k ∙ append-nil (e ∷ es)) in
+    filter_digits (d ∷ ds) rest h ∙ ap (λ (xs : List ℕ). (d ∷ ds) ++ xs) (ap (filter is_ascii_digit) (sym (append-nil (e ∷ es))) ∙ filter_digits (e ∷ es) [] k ∙ append-nil (e ∷ es)) in
     record {
       some = omega arith;
       mantissa = whole;
@@ -231,8 +231,8 @@ pub spells_minus : (text digits : List ℕ) (places : ℕ) (v : Ratio) → Unsig
 spells_minus text digits places v u short is =
     let e : encode_utf8 hyphen ≡ hyphen ∷ [] = encode_ascii hyphen (omega arith) in
     record {
-  number = number_by (hyphen ∷ text) text 1 refl refl u.mantissa u.some (omega arith);
-  short = short_by (hyphen ∷ text) text digits refl u.shown short;
-  means = u.value true ∙ is;
-  bytes = rw e (ap (λ (xs : List ℕ). hyphen ∷ xs) u.bytes);
-}
+      number = number_by (hyphen ∷ text) text 1 refl refl u.mantissa u.some (omega arith);
+      short = short_by (hyphen ∷ text) text digits refl u.shown short;
+      means = u.value true ∙ is;
+      bytes = rw e (ap (λ (xs : List ℕ). hyphen ∷ xs) u.bytes);
+    }

@@ -1,5 +1,5 @@
 -- The equations of what is counted of a calculation.
-use Rattle.std.specs.Prelude.{Bool, true, false, ◌&&◌, List, [], ◌∷◌, ◌++◌, map, Option, Some, None}
+use Rattle.std.specs.Prelude.{true, ◌&&◌, List, [], ◌∷◌, ◌++◌, map}
 use Rattle.std.proofs.Common.{◌≡◌, refl, sym, ◌∙◌, ap, ap₂}
 use Rattle.cv_ratio.specs.Ratio.{Ratio}
 use Rattle.cv_frac.specs.Bounded.{in_bounds}
@@ -10,9 +10,9 @@ use Rattle.cv_calc.specs.declared.calc.Calc.TheVariants as tree
 use Rattle.cv_calc.specs.declared.calc.Calc.TheOpen.{Num, Sum, Product, Negate, Invert, Min, Max, Clamp}
 use Rattle.cv_simplify.specs.Simplified.{simp, simp_step}
 use Rattle.cv_calc.specs.Tree.{Each, by_cases, fold-Num, fold-Sum, fold-Product, fold-Negate, fold-Invert, fold-Min, fold-Max, fold-Clamp}
-use Rattle.cv_calc.specs.Value.{Meaning, value, value_step, sum_of, product_of, chosen_of, both}
+use Rattle.cv_calc.specs.Value.{Meaning, value, value_step, product_of, chosen_of, both}
 use Rattle.cv_ratio.specs.Order.{lesser, greater}
-use Rattle.cv_simplify.specs.Counted.{Counted, counted, counted_step, inside, inside_step, all_inside, all_true}
+use Rattle.cv_simplify.specs.Counted.{Counted, counted, counted_step, inside, inside_step, all_inside}
 use Rattle.cv_calc_readback.proofs.Digits.{and_true, both_true}
 
 module _ (y : Context) where

@@ -1,24 +1,23 @@
 -- Rows of simplified children: what is joined in them, and that they keep the form of terms and arguments.
-use Rattle.std.specs.Prelude.{ℕ, Bool, true, false, ◌&&◌, ◌||◌, not, List, [], ◌∷◌, ◌++◌, map, fold, length, ◌≤◌, Option, Some, None, if◌then◌else◌}
-use Rattle.std.proofs.Common.{◌≡◌, refl, sym, ◌∙◌, ap, ap₂, subst, arith}
+use Rattle.std.specs.Prelude.{Bool, true, false, ◌&&◌, ◌||◌, not, List, [], ◌∷◌, map, fold, Option, Some, None, if◌then◌else◌}
+use Rattle.std.proofs.Common.{◌≡◌, refl, sym, ◌∙◌, ap, ap₂, subst}
 use Rattle.cv_ratio.specs.Ratio.{Ratio, add}
 use Rattle.cv_calc.specs.declared.unit.Unit as units
 use Rattle.cv_calc.specs.declared.calc.Calc.{Calc}
 use Rattle.cv_calc.specs.declared.calc.Calc.TheVariants as tree
 use Rattle.cv_calc.specs.declared.calc.Calc.TheOpen.{Calc-F, Num, Sum, Product, Negate, Invert, Min, Max, Clamp}
 use Rattle.cv_calc.specs.declared.calc.Calc.TheViews.{out-Calc}
-use Rattle.cv_calc.specs.Tree.{out-Sum}
 use Rattle.cv_calc.specs.Unit.{same_unit}
 use Rattle.cv_calc.specs.declared.unit.Unit.TheVariants.{Number}
-use Rattle.cv_simplify.specs.Simplified.{any_unit, joined_as, joined_by, join_first, with_child, one_or, terms_as, terms_of, with_terms_of, sum_row, summed, choice_row}
+use Rattle.cv_simplify.specs.Simplified.{any_unit, joined_as, joined_by, join_first, with_child, one_or, choice_row}
 use Rattle.cv_calc_readback.proofs.Digits.{and_true, both_true}
 use Rattle.cv_calc_readback.proofs.Forms.{IsForm, measure, sum, product, turned, least, greatest, limited, IsTerm, plus, minus, AreTerms, no_terms, terms, AreForms, no_forms, forms}
 use Rattle.cv_calc_readback.proofs.Heads.{Head, number, head, head_as, head-Num, head-Sum, head-Product, head-Negate, head-Min, head-Max, head-Clamp, is_negate, is_number, is_sum, joinable, row_apart, terms_alone, not_true}
 use Rattle.cv_calc_readback.proofs.Heads as heads
 use Rattle.cv_calc_readback.proofs.Limits.{compared}
 use Rattle.cv_calc_readback.proofs.Negatives.{Measure}
-use Rattle.cv_calc_readback.proofs.Orders.{none_after, pairs_apart, apart_pairs}
-use Rattle.cv_calc_readback.proofs.RowOrders.{IsRow, starts, has_number}
+use Rattle.cv_calc_readback.proofs.Orders.{none_after, pairs_apart}
+use Rattle.cv_calc_readback.proofs.RowOrders.{has_number}
 use Rattle.cv_calc_readback.proofs.Sums.{no_sums}
 
 -- ---- what is joined
@@ -109,7 +108,7 @@ module _ (may : units.Unit → Bool) where
         go (Some e) is first rest more =
             let j : Joins may f c d e = joins may f c d e is in
             let same : joinable may h (head e) ≡ joinable may h (head c) =
-                ap (joinable may h) (ap head j.made ∙ head-Num (f j.left j.right) j.common) ∙ same_right (f j.left j.right) j.left j.common h ∙ ap (joinable may h) (sym j.first) in
+            ap (joinable may h) (ap head j.made ∙ head-Num (f j.left j.right) j.common) ∙ same_right (f j.left j.right) j.left j.common h ∙ ap (joinable may h) (sym j.first) in
             both_true (not (joinable may h (head e))) (none_after may h (map head cs)) (ap not same ∙ first) rest
         go None is first rest more = both_true (not (joinable may h (head c))) (none_after may h (map head (with_child (joined_by may f) cs d))) first more
 
@@ -122,7 +121,7 @@ module _ (may : units.Unit → Bool) where
         go (Some e) is first rest more =
             let j : Joins may f c d e = joins may f c d e is in
             let same : none_after may (head e) (map head cs) ≡ none_after may (head c) (map head cs) =
-                ap (λ h. none_after may h (map head cs)) (ap head j.made ∙ head-Num (f j.left j.right) j.common) ∙ same_after (f j.left j.right) j.left j.common (map head cs) ∙ ap (λ h. none_after may h (map head cs)) (sym j.first) in
+            ap (λ h. none_after may h (map head cs)) (ap head j.made ∙ head-Num (f j.left j.right) j.common) ∙ same_after (f j.left j.right) j.left j.common (map head cs) ∙ ap (λ h. none_after may h (map head cs)) (sym j.first) in
             both_true (none_after may (head e) (map head cs)) (pairs_apart may (map head cs)) (same ∙ first) rest
         go None is first rest more =
             both_true (none_after may (head c) (map head (with_child (joined_by may f) cs d))) (pairs_apart may (map head (with_child (joined_by may f) cs d))) (none_with (head c) cs d first (not_joined may f c d is)) more

@@ -1,13 +1,13 @@
 -- What is read as a linear calculation of lengths and percentages simplifies to a form, where a percentage is a part of a length that
 -- isn't known.
-use Rattle.std.specs.Prelude.{ℕ, Bool, true, false, ◌&&◌, not, List, [], ◌∷◌, map, fold, Option, Some, None, if◌then◌else◌}
+use Rattle.std.specs.Prelude.{Bool, true, false, ◌&&◌, List, [], ◌∷◌, map, fold, Some, None, if◌then◌else◌}
 use Rattle.std.specs.Option.{option_and_then}
-use Rattle.std.proofs.Common.{inl, inr, ◌≡◌, refl, sym, ◌∙◌, ap, ap₂, subst}
+use Rattle.std.proofs.Common.{inl, inr, ◌≡◌, refl, sym, ◌∙◌, ap, subst}
 use Rattle.cv_ratio.specs.Ratio.{Ratio, mul, neg}
 use Rattle.cv_ratio.specs.Order.{lesser, greater}
 use Rattle.cv_calc.specs.declared.unit.NumType.{NumType}
 use Rattle.cv_calc.specs.declared.unit.Unit as units
-use Rattle.cv_calc.specs.declared.unit.Unit.TheVariants.{Number, Percent, Px, Deg, Grad, Turn, S, Ms, Hz, Khz, Dppx, X, Dpi, Dpcm, Fr}
+use Rattle.cv_calc.specs.declared.unit.Unit.TheVariants.{Number, Percent, Deg, Grad, Turn, S, Ms, Hz, Khz, Dppx, X, Dpi, Dpcm, Fr}
 use Rattle.cv_calc.specs.declared.context.Basis.{Basis}
 use Rattle.cv_calc.specs.declared.context.Basis.TheVariants.{Length}
 use Rattle.cv_calc.specs.declared.context.Context.{Context}
@@ -40,12 +40,11 @@ use Rattle.cv_calc_laws.proofs.Valued.{Fits, terms_fit, sum_fits, product_fits}
 use Rattle.cv_calc_readback.proofs.Digits.{and_true}
 use Rattle.cv_calc_readback.proofs.FormRows.{form_measure, choice_of, chosen_form}
 use Rattle.cv_calc_readback.proofs.Forms.{IsForm, measure, sum, product, turned, least, greatest, limited, IsTerm, plus, minus, AreTerms, no_terms, terms, AreForms, no_forms, forms}
-use Rattle.cv_calc_readback.proofs.Heads.{Head, number, head, head_as, head-Num, head-Sum, head-Product, head-Min, head-Max, head-Clamp}
-use Rattle.cv_calc_readback.proofs.Heads as heads
+use Rattle.cv_calc_readback.proofs.Heads.{head, head_as, head-Sum, head-Product, head-Min, head-Max, head-Clamp}
 use Rattle.cv_calc_readback.proofs.Limits.{compared, clampable}
-use Rattle.cv_calc_readback.proofs.Negatives.{Measure, px, percent, may_be_taken, negated_as_stays}
+use Rattle.cv_calc_readback.proofs.Negatives.{px, percent, may_be_taken, negated_as_stays}
 use Rattle.cv_calc_readback.proofs.ProductForms.{multiplied_form}
-use Rattle.cv_calc_readback.proofs.ReadShapes.{Stand, anywhere, stand, all_values, all_terms, all_factors, are_terms, are_factors, stand-Num, stand-Sum, stand-Product, stand-Negate, stand-Invert, stand-Min, stand-Max, stand-Clamp}
+use Rattle.cv_calc_readback.proofs.ReadShapes.{Stand, anywhere, stand, all_values, all_terms, all_factors, are_terms, are_factors, stand-Num, stand-Sum, stand-Product, stand-Negate, stand-Min, stand-Max, stand-Clamp}
 use Rattle.cv_calc_readback.proofs.SumForms.{summed_form}
 
 -- ---- the nodes
@@ -172,9 +171,9 @@ module _ (m : Meaning) (x : Context) (ag : Agrees m x) (basis : x.basis ≡ Leng
       let (fits, lengths) = parts (c ∷ cs) (subst IsLength (shape-Sum (c ∷ cs)) k) (subst (λ (s : Shape). s.fits ≡ true) (shape-Sum (c ∷ cs)) l) in
       let have = sum_has (map (value m) (c ∷ cs)) has.0 (sym (value-Sum m (c ∷ cs)) ∙ has.1) in
       by_form (Sum (c ∷ cs)) (are_terms (map stand (c ∷ cs))) (stand-Sum (c ∷ cs)) (λ s.
-          let p = and_true (stand c).value (all_terms (map stand cs)) s in
-          subst IsForm (sym (fold-Sum (simp_step x) (c ∷ cs)))
-              (summed_form (simp x c) (map (simp x) cs) ((h.0 lengths.0 fits.0.1 have.0).value p.0) (terms_formed cs h.1 lengths.1 fits.1 have.1 p.1)))
+      let p = and_true (stand c).value (all_terms (map stand cs)) s in
+      subst IsForm (sym (fold-Sum (simp_step x) (c ∷ cs)))
+      (summed_form (simp x c) (map (simp x) cs) ((h.0 lengths.0 fits.0.1 have.0).value p.0) (terms_formed cs h.1 lengths.1 fits.1 have.1 p.1)))
 
   min_formed : (cs : List Calc) → Each IsFormed cs → IsFormed (Min cs)
   unfolding simp
@@ -183,8 +182,8 @@ module _ (m : Meaning) (x : Context) (ag : Agrees m x) (basis : x.basis ≡ Leng
       let (fits, lengths) = parts (c ∷ cs) (subst IsLength (shape-Min (c ∷ cs)) k) (subst (λ (s : Shape). s.fits ≡ true) (shape-Min (c ∷ cs)) l) in
       let have = chosen_has lesser (map (value m) (c ∷ cs)) has.0 (sym (value-Min m (c ∷ cs)) ∙ has.1) in
       by_form (Min (c ∷ cs)) (all_values (map stand (c ∷ cs))) (stand-Min (c ∷ cs)) (λ s.
-          subst IsForm (sym (fold-Min (simp_step x) (c ∷ cs) ∙ ap (λ (b : Basis). simplified.one_or Min (simplified.choice_row (compares_percent b) lesser (map (simp x) (c ∷ cs)))) basis))
-              (chosen_form Min (λ a b ds fs e. least fs e) (simplified.choice_row false lesser (map (simp x) (c ∷ cs))) (choice_of lesser (simp x c) (map (simp x) cs) (forms_formed (c ∷ cs) h lengths fits have s))))
+      subst IsForm (sym (fold-Min (simp_step x) (c ∷ cs) ∙ ap (λ (b : Basis). simplified.one_or Min (simplified.choice_row (compares_percent b) lesser (map (simp x) (c ∷ cs)))) basis))
+      (chosen_form Min (λ a b ds fs e. least fs e) (simplified.choice_row false lesser (map (simp x) (c ∷ cs))) (choice_of lesser (simp x c) (map (simp x) cs) (forms_formed (c ∷ cs) h lengths fits have s))))
 
   max_formed : (cs : List Calc) → Each IsFormed cs → IsFormed (Max cs)
   unfolding simp
@@ -193,8 +192,8 @@ module _ (m : Meaning) (x : Context) (ag : Agrees m x) (basis : x.basis ≡ Leng
       let (fits, lengths) = parts (c ∷ cs) (subst IsLength (shape-Max (c ∷ cs)) k) (subst (λ (s : Shape). s.fits ≡ true) (shape-Max (c ∷ cs)) l) in
       let have = chosen_has greater (map (value m) (c ∷ cs)) has.0 (sym (value-Max m (c ∷ cs)) ∙ has.1) in
       by_form (Max (c ∷ cs)) (all_values (map stand (c ∷ cs))) (stand-Max (c ∷ cs)) (λ s.
-          subst IsForm (sym (fold-Max (simp_step x) (c ∷ cs) ∙ ap (λ (b : Basis). simplified.one_or Max (simplified.choice_row (compares_percent b) greater (map (simp x) (c ∷ cs)))) basis))
-              (chosen_form Max (λ a b ds fs e. greatest fs e) (simplified.choice_row false greater (map (simp x) (c ∷ cs))) (choice_of greater (simp x c) (map (simp x) cs) (forms_formed (c ∷ cs) h lengths fits have s))))
+      subst IsForm (sym (fold-Max (simp_step x) (c ∷ cs) ∙ ap (λ (b : Basis). simplified.one_or Max (simplified.choice_row (compares_percent b) greater (map (simp x) (c ∷ cs)))) basis))
+      (chosen_form Max (λ a b ds fs e. greatest fs e) (simplified.choice_row false greater (map (simp x) (c ∷ cs))) (choice_of greater (simp x c) (map (simp x) cs) (forms_formed (c ∷ cs) h lengths fits have s))))
 
   product_formed : (cs : List Calc) → Each IsFormed cs → IsFormed (Product cs)
   unfolding simp
@@ -204,7 +203,7 @@ module _ (m : Meaning) (x : Context) (ag : Agrees m x) (basis : x.basis ≡ Leng
       let inner : Every Fits (map shape cs) = product_fits (map shape cs) ((w, kind), fits) in
       let have : Every HasValue (map (value m) cs) = product_has (map (value m) cs) has.0 (sym (value-Product m cs) ∙ has.1) in
       by_form (Product cs) (are_factors (map stand cs)) (stand-Product cs) (λ s.
-          subst IsForm (sym (fold-Product (simp_step x) cs)) (go w len inner have s (product_typed w (map shape cs) (all_typed cs inner) kind fits)))
+      subst IsForm (sym (fold-Product (simp_step x) cs)) (go w len inner have s (product_typed w (map shape cs) (all_typed cs inner) kind fits)))
     where
       go : (w : NumType) → is_length_percentage w ≡ true → Every Fits (map shape cs) → Every HasValue (map (value m) cs) → are_factors (map stand cs) ≡ true → ProductParts w (map shape cs) → IsForm (simp_step x (layer.Product (map (simp x) cs)))
       go w len inner have s (inl p) = absurd (no_length w p.0 len)
@@ -238,10 +237,10 @@ module _ (m : Meaning) (x : Context) (ag : Agrees m x) (basis : x.basis ≡ Leng
       let (first, others) = both_have greater (value m a) (both lesser (value m b) (value m c)) has.0 (sym (value-Clamp m a b c) ∙ has.1) in
       let (second, third) = both_have lesser (value m b) (value m c) others.0 others.1 in
       by_form (Clamp a b c) ((stand a).value && ((stand b).value && (stand c).value)) (stand-Clamp a b c) (λ s.
-          let p = and_true (stand a).value ((stand b).value && (stand c).value) s in
-          let q = and_true (stand b).value (stand c).value p.1 in
-          subst IsForm (sym (fold-Clamp (simp_step x) a b c ∙ ap (λ (d : Basis). simplified.clamped (compares_percent d) (simp x a) (simp x b) (simp x c)) basis))
-              (clamp_form (simp x a) (simp x b) (simp x c) ((h low start.1 first).value p.0) ((k middle rest.0.1 second).value q.0) ((l high rest.1.0.1 third).value q.1)))
+      let p = and_true (stand a).value ((stand b).value && (stand c).value) s in
+      let q = and_true (stand b).value (stand c).value p.1 in
+      subst IsForm (sym (fold-Clamp (simp_step x) a b c ∙ ap (λ (d : Basis). simplified.clamped (compares_percent d) (simp x a) (simp x b) (simp x c)) basis))
+      (clamp_form (simp x a) (simp x b) (simp x c) ((h low start.1 first).value p.0) ((k middle rest.0.1 second).value q.0) ((l high rest.1.0.1 third).value q.1)))
 
   every_formed : (c : Calc) → IsFormed c
   every_formed = by_cases IsFormed record {

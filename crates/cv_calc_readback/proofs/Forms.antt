@@ -1,6 +1,6 @@
 -- The form of a simplified calculation of lengths and percentages, where a percentage is a part of a length that isn't known.
-use Rattle.std.specs.Prelude.{ℕ, Bool, true, false, ◌&&◌, not, List, [], ◌∷◌, ◌++◌, map, Option, Some, None}
-use Rattle.std.proofs.Common.{◌≡◌, refl, sym, ◌∙◌, ap, ap₂, subst}
+use Rattle.std.specs.Prelude.{Bool, true, false, ◌&&◌, List, [], ◌∷◌, map}
+use Rattle.std.proofs.Common.{◌≡◌, refl, sym, ◌∙◌, ap, subst}
 use Rattle.cv_ratio.specs.Ratio.{Ratio}
 use Rattle.cv_calc.specs.declared.unit.Unit as units
 use Rattle.cv_calc.specs.declared.unit.Unit.TheVariants.{Number}
@@ -13,14 +13,14 @@ use Rattle.cv_calc_readback.proofs.Digits.{and_true}
 use Rattle.cv_calc_readback.proofs.Equations.{inside-Num, inside-Sum, inside-Product, inside-Negate, inside-Min, inside-Max, inside-Clamp}
 use Rattle.cv_calc_readback.proofs.Orders.{pairs_apart, apart_pairs, text_rank, in_text_order}
 use Rattle.cv_calc_readback.proofs.RowOrders.{IsRow, Ordered, row_ordered}
-use Rattle.cv_calc_readback.proofs.Heads.{head, head-Num, is_negate, is_sum, apart}
+use Rattle.cv_calc_readback.proofs.Heads.{head, head-Num, is_negate, apart}
 use Rattle.cv_calc_readback.proofs.Choices.{Given}
 use Rattle.cv_calc_readback.proofs.Choices as choices
 use Rattle.cv_calc_readback.proofs.Composites.{Composite, composite-Sum, composite-Product, composite-Min, composite-Max, composite-Clamp, composite_term}
 use Rattle.cv_calc_readback.proofs.Limits.{compared, clampable, min_known, max_known, clamp_known}
 use Rattle.cv_calc_readback.proofs.Negatives.{Measure, may_be_taken, measure_known, measure_term, negative_term}
 use Rattle.cv_calc_readback.proofs.Products.{times_head, product_known, turned_known}
-use Rattle.cv_calc_readback.proofs.Ranks.{in_ranks, in_ranks_map}
+use Rattle.cv_calc_readback.proofs.Ranks.{in_ranks_map}
 use Rattle.cv_calc_readback.proofs.Sums.{no_sums, rank, sorted, heads, sum_known}
 use Rattle.cv_calc_readback.proofs.Terms.{Known, Term, Entry, calcs}
 
@@ -77,7 +77,7 @@ sum_of_row cs n r =
     let same_heads : heads (s.first ∷ s.second ∷ s.rest) ≡ map head (r.first ∷ r.second ∷ r.rest) = heads_of (s.first ∷ s.second ∷ s.rest) ∙ ap (map head) same_calcs in
     let first_is : s.first.calc ≡ r.first = cc in
     subst (λ (ds : List Calc). Known (Sum ds)) n.same
-        (sum_known es s.first s.second s.rest s.order (ap (λ c. is_negate (head c)) first_is ∙ r.begins) (ap (apart any_unit []) same_heads ∙ r.differ) (ap no_sums same_heads ∙ r.flat))
+    (sum_known es s.first s.second s.rest s.order (ap (λ c. is_negate (head c)) first_is ∙ r.begins) (ap (apart any_unit []) same_heads ∙ r.differ) (ap no_sums same_heads ∙ r.flat))
 
 times_composite : {x : Calc} → IsForm x → times_head (head x) ≡ true → Composite (written x)
 times_composite (measure {u} v m) h = absurd (apart (sym (ap times_head (head-Num v u)) ∙ h))

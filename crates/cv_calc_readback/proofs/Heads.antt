@@ -1,5 +1,5 @@
 -- What node a calculation is, and rows of calculations in which nothing is joined.
-use Rattle.std.specs.Prelude.{Bool, true, false, ◌&&◌, not, List, [], ◌∷◌, ◌++◌, map, fold, Option, Some, None, if◌then◌else◌}
+use Rattle.std.specs.Prelude.{Bool, true, false, ◌&&◌, not, List, [], ◌∷◌, ◌++◌, map, fold, None}
 use Rattle.std.proofs.Common.{◌≡◌, refl, sym, ◌∙◌, ap, append_assoc}
 use Rattle.std.proofs.lemmas.List.{append-nil}
 use Rattle.cv_ratio.specs.Ratio.{Ratio}
@@ -8,10 +8,10 @@ use Rattle.cv_calc.specs.declared.calc.Calc.{Calc}
 use Rattle.cv_calc.specs.declared.calc.Calc.TheVariants as tree
 use Rattle.cv_calc.specs.declared.calc.Calc.TheOpen.{Calc-F, Num, Sum, Product, Negate, Invert, Min, Max, Clamp}
 use Rattle.cv_calc.specs.declared.calc.Calc.TheViews.{out-Calc}
-use Rattle.cv_calc.specs.Tree.{out-Num, out-Sum, out-Product, out-Negate, out-Invert, out-Min, out-Max, out-Clamp}
+use Rattle.cv_calc.specs.Tree.{out-Num, out-Sum, out-Product, out-Negate, out-Min, out-Max, out-Clamp}
 use Rattle.cv_calc.specs.Unit.{same_unit}
-use Rattle.cv_simplify.specs.Simplified.{joined_as, joined_by, join_first, with_child, terms_as, terms_of, any_unit}
-use Rattle.cv_calc_readback.proofs.Digits.{and_true, both_true}
+use Rattle.cv_simplify.specs.Simplified.{joined_as, joined_by, join_first, with_child, terms_as, terms_of}
+use Rattle.cv_calc_readback.proofs.Digits.{and_true}
 
 -- ---- the node
 

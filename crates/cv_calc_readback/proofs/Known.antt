@@ -1,5 +1,5 @@
 -- What is to be known of a simplified calculation and of the tree as which its text reads.
-use Rattle.std.specs.Prelude.{Bool, true, ◌∷◌, List, [], ◌++◌}
+use Rattle.std.specs.Prelude.{true, ◌∷◌, List, [], ◌++◌}
 use Rattle.std.proofs.Common.{◌≡◌}
 use Rattle.cv_spec_text.specs.declared.token.Token.{Token}
 use Rattle.cv_spec_text.specs.declared.token.Token.TheVariants as tokens

@@ -1,8 +1,6 @@
 -- The least, the greatest, and what lies within limits, are known where nothing in them is compared.
-use Rattle.std.specs.Prelude.{ℕ, zero, suc, Bool, true, false, ◌&&◌, not, List, [], ◌∷◌, ◌++◌, fold, map, codes, Option, Some, None, if◌then◌else◌}
+use Rattle.std.specs.Prelude.{Bool, true, false, ◌&&◌, List, [], ◌∷◌, ◌++◌, map, codes, None}
 use Rattle.std.proofs.Common.{◌≡◌, refl, sym, ◌∙◌, ap, ap₂, subst}
-use Rattle.cv_spec_text.specs.declared.token.Token.{Token}
-use Rattle.cv_spec_text.specs.declared.token.Token.TheVariants as tokens
 use Rattle.cv_ratio.specs.Ratio.{Ratio}
 use Rattle.cv_ratio.specs.Order.{lesser, greater}
 use Rattle.cv_calc.specs.declared.unit.Unit as units
@@ -10,29 +8,25 @@ use Rattle.cv_calc.specs.declared.context.Basis.{Basis}
 use Rattle.cv_calc.specs.declared.context.Context.{Context}
 use Rattle.cv_calc.specs.declared.calc.Calc.{Calc}
 use Rattle.cv_calc.specs.declared.calc.Calc.TheVariants as tree
-use Rattle.cv_calc.specs.declared.calc.Calc.TheOpen.{Calc-F, Num, Sum, Product, Negate, Invert, Min, Max, Clamp}
+use Rattle.cv_calc.specs.declared.calc.Calc.TheOpen.{Calc-F, Num, Min, Max, Clamp}
 use Rattle.cv_calc.specs.declared.calc.Calc.TheViews.{out-Calc}
 use Rattle.cv_calc.specs.Unit.{same_unit}
 use Rattle.cv_calc.specs.Linear.{shape, sum_shape, added_shape}
-use Rattle.cv_calc.specs.Value.{Meaning, value, chosen_of, both}
+use Rattle.cv_calc.specs.Value.{value, chosen_of, both}
 use Rattle.cv_calc.proofs.Shapes.{shape-Min, shape-Max, shape-Clamp}
-use Rattle.cv_calcread.specs.Figures as figures
-use Rattle.cv_calcread.specs.Figures.{Evaluated, evaluated, with_part}
+use Rattle.cv_calcread.specs.Figures.{Evaluated, evaluated}
 use Rattle.cv_calcread.specs.declared.figure.Joining.TheVariants.{Least, Greatest}
 use Rattle.cv_calcread.specs.declared.level.Opened.TheVariants as opening
 use Rattle.cv_calcread.proofs.Evaluations.{evaluated-Min, evaluated-Max, evaluated-Clamp}
-use Rattle.cv_simplify.specs.Counted.{Counted, counted, counted_step, inside, all_inside, children_in_range}
+use Rattle.cv_simplify.specs.Counted.{Counted, counted, counted_step, inside}
 use Rattle.cv_simplify.specs.Simplified as simplified
 use Rattle.cv_simplify.specs.Text.{Written, written, arguments_of, call, prefix, last_rank}
-use Rattle.cv_simplify.specs.declared.place.Place.{Place}
-use Rattle.cv_simplify.specs.declared.place.Place.TheVariants.{Operand, Whole, Argument}
 use Rattle.cv_simplify.proofs.Texts.{written-Min, written-Max, written-Clamp}
 use Rattle.cv_calc_readback.proofs.Answered.{all_fine, fine_append}
-use Rattle.cv_calc_readback.proofs.Choices.{Given, calcs, reads, simples, kinds, heads, shapes_written, shapes_read, shapes_simple, heads_same, within_all, counted_all, values_all, fine_chosen, line, arguments_line, called}
-use Rattle.cv_calc_readback.proofs.Digits.{and_true, both_true}
+use Rattle.cv_calc_readback.proofs.Choices.{Given, calcs, reads, simples, kinds, heads, shapes_written, shapes_read, shapes_simple, heads_same, within_all, counted_all, values_all, fine_chosen, arguments_line, called}
 use Rattle.cv_calc_readback.proofs.Equations.{counted-Min, counted-Max, counted-Clamp, inside-Min, inside-Max, inside-Clamp, value-Min, value-Max, value-Clamp}
-use Rattle.cv_calc_readback.proofs.Heads.{Head, number, sum, product, negate, invert, least, greatest, clamp, head, head_as, head-Min, head-Max, head-Clamp, apart, row_apart}
-use Rattle.cv_calc_readback.proofs.Known.{Facts, Opening}
+use Rattle.cv_calc_readback.proofs.Heads.{Head, number, head, head_as, head-Min, head-Max, head-Clamp, apart, row_apart}
+use Rattle.cv_calc_readback.proofs.Known.{Opening}
 use Rattle.cv_calc_readback.proofs.Mixed.{Kind, model, join, joined_kind, joined_merged, sum_kinds, added_kinds}
 use Rattle.cv_calc_readback.proofs.Terms.{lp, Known, in_range, simple_of_all, children_all}
 
@@ -63,8 +57,10 @@ module _ (g d : Given) (gs : List Given) (differ : apart compared [] (heads (g �
   min_counts y k =
       counted-Min y (reads all)
       ∙ ap (λ cs. counted_step y (Min cs)) (counted_all y k all)
-      ∙ ap₂ (λ cs b. record { simple = simplified.one_or tree.Min (simplified.choice_row (simplified.compares_percent y.basis) lesser cs);
-            in_range = b && inside (simplified.one_or tree.Min (simplified.choice_row (simplified.compares_percent y.basis) lesser cs)) }) (simple_of_all (simples all)) (children_all (simples all))
+      ∙ ap₂ (λ cs b. record {
+        simple = simplified.one_or tree.Min (simplified.choice_row (simplified.compares_percent y.basis) lesser cs);
+        in_range = b && inside (simplified.one_or tree.Min (simplified.choice_row (simplified.compares_percent y.basis) lesser cs));
+      }) (simple_of_all (simples all)) (children_all (simples all))
       ∙ ap (λ row. record { simple = simplified.one_or tree.Min row; in_range = inside (simplified.one_or tree.Min row) }) (row_counts y lesser (simples all) k stays)
       ∙ ap (λ b. record { simple = tree.Min (simples all); in_range = b }) (inside-Min (simples all) ∙ within_all all)
 
@@ -76,7 +72,7 @@ module _ (g d : Given) (gs : List Given) (differ : apart compared [] (heads (g �
       read = tree.Min (reads all);
       opens = subst (λ (w : Written). Opening w (tree.Min (reads all))) (sym (written-Min (calcs all)))
           (called (record { rank = last_rank; at_place = λ place. prefix place ++ call (codes "min") (arguments_of (map written (calcs all))) }) (codes "min") opening.Min g (d ∷ gs) (tree.Min (reads all))
-              (ap (call (codes "min")) (arguments_line g (d ∷ gs))) (ap (call (codes "min")) (arguments_line g (d ∷ gs))) refl refl refl refl);
+          (ap (call (codes "min")) (arguments_line g (d ∷ gs))) (ap (call (codes "min")) (arguments_line g (d ∷ gs))) refl refl refl refl);
       facts = record {
         written_shape = shape-Min (calcs all) ∙ shape_of (calcs all) (shapes_written all);
         read_shape = shape-Min (reads all) ∙ shape_of (reads all) (shapes_read all);
@@ -96,8 +92,10 @@ module _ (g d : Given) (gs : List Given) (differ : apart compared [] (heads (g �
   max_counts y k =
       counted-Max y (reads all)
       ∙ ap (λ cs. counted_step y (Max cs)) (counted_all y k all)
-      ∙ ap₂ (λ cs b. record { simple = simplified.one_or tree.Max (simplified.choice_row (simplified.compares_percent y.basis) greater cs);
-            in_range = b && inside (simplified.one_or tree.Max (simplified.choice_row (simplified.compares_percent y.basis) greater cs)) }) (simple_of_all (simples all)) (children_all (simples all))
+      ∙ ap₂ (λ cs b. record {
+        simple = simplified.one_or tree.Max (simplified.choice_row (simplified.compares_percent y.basis) greater cs);
+        in_range = b && inside (simplified.one_or tree.Max (simplified.choice_row (simplified.compares_percent y.basis) greater cs));
+      }) (simple_of_all (simples all)) (children_all (simples all))
       ∙ ap (λ row. record { simple = simplified.one_or tree.Max row; in_range = inside (simplified.one_or tree.Max row) }) (row_counts y greater (simples all) k stays)
       ∙ ap (λ b. record { simple = tree.Max (simples all); in_range = b }) (inside-Max (simples all) ∙ within_all all)
 
@@ -109,7 +107,7 @@ module _ (g d : Given) (gs : List Given) (differ : apart compared [] (heads (g �
       read = tree.Max (reads all);
       opens = subst (λ (w : Written). Opening w (tree.Max (reads all))) (sym (written-Max (calcs all)))
           (called (record { rank = last_rank; at_place = λ place. prefix place ++ call (codes "max") (arguments_of (map written (calcs all))) }) (codes "max") opening.Max g (d ∷ gs) (tree.Max (reads all))
-              (ap (call (codes "max")) (arguments_line g (d ∷ gs))) (ap (call (codes "max")) (arguments_line g (d ∷ gs))) refl refl refl refl);
+          (ap (call (codes "max")) (arguments_line g (d ∷ gs))) (ap (call (codes "max")) (arguments_line g (d ∷ gs))) refl refl refl refl);
       facts = record {
         written_shape = shape-Max (calcs all) ∙ shape_of (calcs all) (shapes_written all);
         read_shape = shape-Max (reads all) ∙ shape_of (reads all) (shapes_read all);
@@ -153,8 +151,8 @@ module _ (g d e : Given) (differ : clampable (head g.calc) (head d.calc) (head e
   clamp_stays y k =
       ap (λ (b : Basis). simplified.clamped (simplified.compares_percent b) g.known.simple d.known.simple e.known.simple) k
       ∙ ap (λ o. simplified.clamped_as o g.known.simple d.known.simple e.known.simple)
-          (clamped_as_none (out-Calc g.known.simple) (out-Calc d.known.simple) (out-Calc e.known.simple)
-              (ap₂ (λ h k. clampable h k (head e.known.simple)) g.known.opened.facts.same d.known.opened.facts.same ∙ ap (clampable (head g.calc) (head d.calc)) e.known.opened.facts.same ∙ differ))
+      (clamped_as_none (out-Calc g.known.simple) (out-Calc d.known.simple) (out-Calc e.known.simple)
+      (ap₂ (λ h k. clampable h k (head e.known.simple)) g.known.opened.facts.same d.known.opened.facts.same ∙ ap (clampable (head g.calc) (head d.calc)) e.known.opened.facts.same ∙ differ))
 
   inside_limits : inside limits ≡ true
   inside_limits = inside-Clamp g.known.simple d.known.simple e.known.simple ∙ all_three (inside g.known.simple) (inside d.known.simple) (inside e.known.simple) g.known.opened.facts.within d.known.opened.facts.within e.known.opened.facts.within
@@ -181,7 +179,7 @@ module _ (g d e : Given) (differ : clampable (head g.calc) (head d.calc) (head e
   clamp_fine =
       ap (λ (v : Evaluated). all_fine v.marks) (evaluated-Clamp g.known.opened.read d.known.opened.read e.known.opened.read)
       ∙ fine_append (evaluated g.known.opened.read).marks _ g.known.opened.facts.fine
-          (fine_append (evaluated d.known.opened.read).marks (evaluated e.known.opened.read).marks d.known.opened.facts.fine e.known.opened.facts.fine)
+      (fine_append (evaluated d.known.opened.read).marks (evaluated e.known.opened.read).marks d.known.opened.facts.fine e.known.opened.facts.fine)
 
   pub clamp_known : Known (tree.Clamp g.calc d.calc e.calc)
   clamp_known = record {
@@ -191,7 +189,7 @@ module _ (g d e : Given) (differ : clampable (head g.calc) (head d.calc) (head e
       read = limited;
       opens = subst (λ (w : Written). Opening w limited) (sym (written-Clamp g.calc d.calc e.calc))
           (called (record { rank = last_rank; at_place = λ place. prefix place ++ call (codes "clamp") (arguments_of (map written (calcs three))) }) (codes "clamp") opening.Clamp g (d ∷ e ∷ []) limited
-              (ap (call (codes "clamp")) (arguments_line g (d ∷ e ∷ []))) (ap (call (codes "clamp")) (arguments_line g (d ∷ e ∷ []))) refl refl refl refl);
+          (ap (call (codes "clamp")) (arguments_line g (d ∷ e ∷ []))) (ap (call (codes "clamp")) (arguments_line g (d ∷ e ∷ []))) refl refl refl refl);
       facts = record {
         written_shape = three_shapes g.calc d.calc e.calc g.known.opened.facts.written_shape d.known.opened.facts.written_shape e.known.opened.facts.written_shape;
         read_shape = three_shapes g.known.opened.read d.known.opened.read e.known.opened.read g.known.opened.facts.read_shape d.known.opened.facts.read_shape e.known.opened.facts.read_shape;

@@ -1,5 +1,5 @@
 -- The texts of children, one after the other, and of what stands in brackets.
-use Rattle.std.specs.Prelude.{ℕ, zero, suc, Bool, true, false, ◌&&◌, ◌==◌, List, [], ◌∷◌, ◌++◌, fold, map, Some, if◌then◌else◌}
+use Rattle.std.specs.Prelude.{ℕ, zero, suc, Bool, true, false, ◌==◌, List, [], ◌∷◌, ◌++◌, fold, Some}
 use Rattle.std.specs.List.{filter}
 use Rattle.std.proofs.Common.{◌≡◌, refl, sym, ◌∙◌, ap, subst, append_assoc}
 use Rattle.std.proofs.lemmas.List.Sums.{fold-append}
@@ -9,11 +9,11 @@ use Rattle.cv_spec_text.specs.declared.token.Bracket.TheVariants.{Round}
 use Rattle.cv_calc.specs.declared.calc.Calc.{Calc}
 use Rattle.cv_calc.specs.declared.calc.Calc.TheVariants as tree
 use Rattle.cv_calcread.specs.declared.level.Opened.{Opened}
-use Rattle.cv_calcread.specs.Grammar.{Skips, none, white, ReadsValue, brackets, function, ReadsFactors, factor, times, over, ReadsTerms, term, added, taken, ReadsArguments, argument}
+use Rattle.cv_calcread.specs.Grammar.{none, white, ReadsValue, brackets, function, ReadsFactors, factor, times, over, ReadsTerms, term, added, taken, ReadsArguments, argument}
 use Rattle.cv_calcread.specs.Literals.{exact_number}
 use Rattle.cv_calcread.specs.Reading.{one_or, made, opened_by}
 use Rattle.cv_simplify.specs.declared.place.Place.{Place}
-use Rattle.cv_simplify.specs.declared.place.Place.TheVariants.{Operand, Whole, Added, Multiplied, Argument}
+use Rattle.cv_simplify.specs.declared.place.Place.TheVariants.{Operand, Added}
 use Rattle.cv_simplify.specs.Text.{Written, Line, no_line, with_child, with_rank, with_ranked, ranked, line_of, opening, closing, call, operator}
 use Rattle.cv_calc_readback.proofs.Known.{Opening, Adding}
 use Rattle.cv_calc_readback.proofs.Numerals.{narrow, narrow_append}

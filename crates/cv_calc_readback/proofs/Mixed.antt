@@ -1,5 +1,5 @@
 -- The types of lengths, percentages and what is mixed of them, and their sums.
-use Rattle.std.specs.Prelude.{Bool, true, false, ◌&&◌, List, [], ◌∷◌, map, fold, Option, Some, None}
+use Rattle.std.specs.Prelude.{true, false, List, [], ◌∷◌, map, fold, Option, Some, None}
 use Rattle.std.proofs.Common.{◌≡◌, refl, sym, ◌∙◌, ap}
 use Rattle.cv_calc.specs.declared.unit.NumType.{NumType}
 use Rattle.cv_ratio.specs.Ratio.{zero_ratio}

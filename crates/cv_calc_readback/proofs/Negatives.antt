@@ -1,19 +1,17 @@
 -- A number and a negative calculation among the terms of a sum.
-use Rattle.std.specs.Prelude.{Bool, true, false, ◌&&◌, not, List, [], ◌∷◌, ◌++◌, Option, Some, None, option_map}
-use Rattle.std.proofs.Common.{◌≡◌, refl, sym, ◌∙◌, ap, ap₂, subst}
+use Rattle.std.specs.Prelude.{Bool, true, false, ◌&&◌, not, option_map}
+use Rattle.std.proofs.Common.{◌≡◌, refl, sym, ◌∙◌, ap, subst}
 use Rattle.cv_ratio.specs.Ratio.{Ratio, neg}
 use Rattle.cv_frac.specs.Bounded.{in_bounds}
 use Rattle.cv_calc.specs.declared.unit.Unit as units
 use Rattle.cv_calc.specs.declared.unit.Unit.TheVariants.{Px, Percent}
 use Rattle.cv_calc.specs.declared.context.Basis.{Basis}
-use Rattle.cv_calc.specs.declared.context.Basis.TheVariants.{Plain, Length, Of}
 use Rattle.cv_calc.specs.declared.context.Context.{Context}
 use Rattle.cv_calc.specs.declared.calc.Calc.{Calc}
 use Rattle.cv_calc.specs.declared.calc.Calc.TheVariants as tree
 use Rattle.cv_calc.specs.declared.calc.Calc.TheOpen.{Calc-F, Num, Sum, Product, Negate, Invert, Min, Max, Clamp}
 use Rattle.cv_calc.specs.declared.calc.Calc.TheViews.{out-Calc}
 use Rattle.cv_calc.specs.Linear.{shape}
-use Rattle.cv_calc.specs.Value.{Meaning, value}
 use Rattle.cv_calc.proofs.Shapes.{shape-Num, shape-Negate}
 use Rattle.cv_calc.proofs.Values.{value-Negate}
 use Rattle.cv_calcread.specs.Figures.{Evaluated}
@@ -27,8 +25,8 @@ use Rattle.cv_simplify.proofs.Texts.{written-Negate}
 use Rattle.cv_calc_readback.specs.ReadsBack.{Keeps}
 use Rattle.cv_calc_readback.proofs.Answered.{all_fine}
 use Rattle.cv_calc_readback.proofs.Equations.{counted-Negate, inside-Negate}
-use Rattle.cv_calc_readback.proofs.Heads.{Head, number, negate, head, head_as, head-Negate, is_negate, is_number}
-use Rattle.cv_calc_readback.proofs.Known.{Facts, Opening, Adding}
+use Rattle.cv_calc_readback.proofs.Heads.{Head, head, head_as, head-Negate, is_negate, is_number}
+use Rattle.cv_calc_readback.proofs.Known.{Facts, Adding}
 use Rattle.cv_calc_readback.proofs.Lines.{taken_adding}
 use Rattle.cv_calc_readback.proofs.Mixed.{Kind, lengths, percents, model}
 use Rattle.cv_calc_readback.proofs.Numbers.{KnownNumber, number_known, number_opens, AddedNumber, number_added_known}

@@ -1,7 +1,7 @@
 -- How the text of a number reads.
-use Rattle.std.specs.Prelude.{ℕ, zero, suc, Bool, true, false, ◌&&◌, not, ◌<◌, ◌^◌, ℤ, pos, negsuc, int_lt, unsigned_abs, List, [], ◌∷◌, ◌++◌, codes, decimal, Option, Some, None, if◌then◌else◌}
+use Rattle.std.specs.Prelude.{ℕ, Bool, true, false, ◌&&◌, ℤ, pos, int_lt, List, [], ◌∷◌, ◌++◌, codes, decimal, Some}
 use Rattle.std.specs.Fmt.{signed_decimal}
-use Rattle.std.proofs.Common.{◌≡◌, refl, sym, ◌∙◌, ap, ap₂, subst, arith}
+use Rattle.std.proofs.Common.{◌≡◌, refl, sym, ◌∙◌, ap, subst}
 use Rattle.cv_spec_text.specs.declared.token.Token.{Token}
 use Rattle.cv_spec_text.specs.declared.token.Token.TheVariants as tokens
 use Rattle.cv_spec_text.specs.declared.token.Bracket.TheVariants.{Round}
@@ -24,7 +24,7 @@ use Rattle.cv_calc.proofs.FoundTypes.{kind_is_type}
 use Rattle.cv_calcread.specs.Figures.{Evaluated}
 use Rattle.cv_calcread.proofs.Evaluations.{evaluated-Negate}
 use Rattle.cv_calcread.specs.declared.level.Opened.TheVariants as opening
-use Rattle.cv_calcread.specs.Grammar.{begins, Skips, none, white, ReadsValue, literal, brackets, function, ReadsFactors, factor, over, ReadsTerms, term, added, taken, ReadsArguments, argument}
+use Rattle.cv_calcread.specs.Grammar.{begins, none, white, ReadsValue, brackets, function, factor, over, ReadsTerms, term, added, taken, argument}
 use Rattle.cv_calcread.specs.Literals.{exact_number}
 use Rattle.cv_calcread.specs.Reading.{one_or}
 use Rattle.cv_calcread.specs.Answer.{is_wide, answer}
@@ -32,16 +32,14 @@ use Rattle.cv_simplify.specs.Canonical.{is_canonical}
 use Rattle.cv_simplify.specs.Counted.{Counted, counted, counted_step, inside, is_in_range}
 use Rattle.cv_simplify.specs.Simplified as simplified
 use Rattle.cv_simplify.specs.Text.{Written, numeric, number_tokens, number_placed, number_added, has_decimal, written, number_alone, operator, unit_rank}
-use Rattle.cv_simplify.specs.declared.place.Place.TheVariants.{Operand, Whole, Added, Argument}
 use Rattle.cv_simplify.proofs.Bounds.{inside_negated}
 use Rattle.cv_simplify.proofs.Texts.{written-Num}
 use Rattle.cv_calc_readback.specs.ReadsBack.{NumberReadsBack, numeral, quotient as quotient_reads, NumbersReadBack}
 use Rattle.cv_calc_readback.proofs.Answered.{all_fine, answered}
 use Rattle.cv_calc_readback.proofs.Equations.{counted-Negate, counted_simple, inside-Num}
 use Rattle.cv_calc_readback.proofs.Decimals.{small_numbers}
-use Rattle.cv_calc_readback.proofs.Digits.{both_true}
 use Rattle.cv_calc_readback.proofs.Known.{Facts, Opening, Adding}
-use Rattle.cv_calc_readback.proofs.Numerals.{Means, decimal_means, whole_means, narrow, narrow_append, numeral_read, numeral_narrow}
+use Rattle.cv_calc_readback.proofs.Numerals.{Means, decimal_means, whole_means, narrow, numeral_read, numeral_narrow}
 use Rattle.cv_calc_readback.proofs.Quotients.{suits, quotient, quotient_facts, numeral_facts}
 
 -- the tokens of a number within brackets and without, and as what they read

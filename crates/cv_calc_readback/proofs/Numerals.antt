@@ -1,19 +1,17 @@
 -- The tokens of a number, and how they read.
-use Rattle.std.specs.Prelude.{ℕ, zero, suc, Bool, true, false, ◌&&◌, not, nat_lt, ◌<◌, ◌^◌, ℤ, pos, negsuc, unsigned_abs, List, [], ◌∷◌, ◌++◌, map, codes, decimal, Option, Some, None, Result, Ok, Err, encode_utf8_all, if◌then◌else◌}
+use Rattle.std.specs.Prelude.{ℕ, Bool, true, false, ◌&&◌, not, nat_lt, ◌<◌, ◌^◌, ℤ, unsigned_abs, List, [], ◌∷◌, ◌++◌, Option, Some, None}
 use Rattle.std.specs.Fmt.{signed_decimal}
-use Rattle.std.proofs.Common.{◌≡◌, refl, sym, ◌∙◌, ap, subst, arith}
+use Rattle.std.proofs.Common.{◌≡◌, refl, ◌∙◌, ap, arith}
 use Rattle.std.proofs.lemmas.Bool.Decides.{nat_tests}
 use Rattle.cv_spec_text.specs.declared.token.Token.{Token}
-use Rattle.cv_spec_text.specs.declared.token.Token.TheVariants as tokens
 use Rattle.cv_ratio.specs.Ratio.{Ratio, ratio}
 use Rattle.cv_ratio.proofs.Whole.{whole_top, whole_bottom}
-use Rattle.cv_frac.specs.Bounded.{in_bounds, bounded}
-use Rattle.cv_frac.specs.Literal.{is_number, is_short, exact, literal_of}
+use Rattle.cv_frac.specs.Bounded.{in_bounds}
+use Rattle.cv_frac.specs.Literal.{exact, literal_of}
 use Rattle.cv_frac.specs.Places.{decimal_places}
 use Rattle.cv_frac.specs.Text.{frac_text}
 use Rattle.cv_calc.specs.declared.unit.Unit as units
-use Rattle.cv_calc.specs.declared.unit.Unit.TheVariants.{Number, Percent, Px, Cm, Mm, Q, Inch, Pt, Pc, Em, Rem, Ex, Ch, Ic, Vw, Vh, Vmin, Vmax, Deg, Grad, Turn, S, Ms, Hz, Khz, Dppx, X, Dpi, Dpcm, Fr}
-use Rattle.cv_calc.specs.declared.calc.Calc.{Calc}
+use Rattle.cv_calc.specs.declared.unit.Unit.TheVariants.{Number, Percent, Px, Deg, S, Hz, Dppx, Fr}
 use Rattle.cv_calc.specs.declared.calc.Calc.TheVariants as tree
 use Rattle.cv_calc.specs.Names.{unit_with_name, first_named, unit_text}
 use Rattle.cv_calcread.specs.Literals.{exact_number, is_in_range, is_read}

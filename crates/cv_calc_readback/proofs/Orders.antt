@@ -1,7 +1,7 @@
 -- The terms of a sum in the order of their text: what is asked of a row doesn't depend on its order.
-use Rattle.std.specs.Prelude.{ℕ, zero, suc, ◌+◌, ◌==◌, nat_lt, ◌<◌, ◌≤◌, Bool, true, false, ◌&&◌, ◌||◌, not, List, [], ◌∷◌, ◌++◌, map, length, if◌then◌else◌}
+use Rattle.std.specs.Prelude.{ℕ, zero, suc, ◌==◌, nat_lt, Bool, true, false, ◌&&◌, not, List, [], ◌∷◌, ◌++◌, map}
 use Rattle.std.specs.List.{filter}
-use Rattle.std.proofs.Common.{◌≡◌, refl, sym, ◌∙◌, ap, ap₂, subst, arith}
+use Rattle.std.proofs.Common.{◌≡◌, refl, sym, ◌∙◌, ap, ap₂, arith}
 use Rattle.std.proofs.lemmas.Bool.Decides.{nat_tests}
 use Rattle.cv_ratio.specs.Ratio.{Ratio}
 use Rattle.cv_calc.specs.declared.unit.Unit as units
@@ -16,9 +16,8 @@ use Rattle.cv_simplify.specs.Simplified.{any_unit}
 use Rattle.cv_simplify.specs.Text.{Written, written, unit_rank}
 use Rattle.cv_simplify.proofs.Texts.{written-Num, written-Sum, written-Product, written-Negate, written-Invert, written-Min, written-Max, written-Clamp}
 use Rattle.cv_calc_readback.proofs.Digits.{and_true, both_true}
-use Rattle.cv_calc_readback.proofs.Heads.{Head, number, sum, product, negate, invert, least, greatest, clamp, head, head_as, is_negate, is_number, is_sum, joinable, none_joins, apart, map_append, not_true}
-use Rattle.cv_calc_readback.proofs.Ranks.{has_rank, in_ranks, total, total_in_ranks}
-use Rattle.cv_calc_readback.proofs.Sums.{no_sums, rank_bound, both_and, and_comm, and_assoc, and_unit}
+use Rattle.cv_calc_readback.proofs.Heads.{Head, number, sum, product, negate, invert, least, greatest, clamp, head, head_as, is_number, joinable, none_joins, apart, map_append}
+use Rattle.cv_calc_readback.proofs.Ranks.{has_rank, in_ranks}
 
 -- ---- no two of some heads are joined
 
@@ -220,4 +219,4 @@ pairs_ranks zero cs e = refl
 pairs_ranks (suc r) cs e =
     ap (pairs_apart any_unit) (map_append head (in_ranks text_rank r cs) (filter (has_rank text_rank r) cs))
     ∙ pairs_append any_unit (map head (in_ranks text_rank r cs)) (map head (filter (has_rank text_rank r) cs)) (pairs_ranks r cs e) (pairs_filter any_unit (has_rank text_rank r) cs e)
-        (ranks_between r (in_ranks text_rank r cs) cs (ranks_low r cs))
+    (ranks_between r (in_ranks text_rank r cs) cs (ranks_low r cs))

@@ -1,5 +1,5 @@
 -- A product of numbers and one simplified calculation has the form of a product, or is that calculation with a number multiplied into it.
-use Rattle.std.specs.Prelude.{ℕ, suc, Bool, true, false, ◌&&◌, ◌||◌, not, List, [], ◌∷◌, ◌++◌, map, fold, length, ◌≤◌, Option, Some, None, option_map, if◌then◌else◌}
+use Rattle.std.specs.Prelude.{Bool, true, false, ◌&&◌, not, List, [], ◌∷◌, map, fold, Option, Some, None, option_map, if◌then◌else◌}
 use Rattle.std.proofs.Common.{◌≡◌, refl, sym, ◌∙◌, ap, ap₂, subst, inl, inr}
 use Rattle.cv_ratio.specs.Ratio.{Ratio, mul}
 use Rattle.cv_calc.specs.declared.unit.Unit as units
@@ -10,18 +10,15 @@ use Rattle.cv_calc.specs.declared.calc.Calc.TheOpen.{Calc-F, Num, Sum, Product, 
 use Rattle.cv_calc.specs.declared.calc.Calc.TheViews.{out-Calc}
 use Rattle.cv_calc.specs.Tree.{out-Num, out-Sum, out-Product}
 use Rattle.cv_calc.specs.Unit.{same_unit}
-use Rattle.cv_simplify.specs.Simplified.{any_unit, joined_as, joined_by, join_first, with_child, factors_as, factors_of, is_number, with_factors_of, product_row, number_as, number_of, scaled_term, both_terms, scaled_terms, scaled_as, scaled, scaled_pair, or_else, product_as, multiplied}
+use Rattle.cv_simplify.specs.Simplified.{joined_as, joined_by, join_first, with_child, factors_as, is_number, with_factors_of, product_row, number_as, number_of, scaled_as, scaled, scaled_pair, or_else, product_as, multiplied}
 use Rattle.cv_calc_laws.proofs.Lists.{Every, AllButOne}
 use Rattle.cv_calc_laws.proofs.Rows.{IsNum}
-use Rattle.cv_calc_readback.proofs.Digits.{and_true, both_true}
-use Rattle.cv_calc_readback.proofs.Forms.{IsForm, measure, sum, product, turned, least, greatest, limited, IsTerm, plus, minus, AreTerms, no_terms, terms}
-use Rattle.cv_calc_readback.proofs.FormRows.{term_measure, form_measure}
+use Rattle.cv_calc_readback.proofs.Forms.{IsForm, measure, sum, product, turned, least, greatest, limited, AreTerms}
 use Rattle.cv_calc_readback.proofs.Heads.{Head, number, head, head_as, head-Num, head-Sum, head-Product, head-Min, head-Max, head-Clamp, is_negate, is_sum, is_num, nums_alone, joinable, joined_none}
 use Rattle.cv_calc_readback.proofs.Heads as heads
 use Rattle.cv_calc_readback.proofs.Negatives.{Measure, px, percent}
-use Rattle.cv_calc_readback.proofs.Orders.{none_after, pairs_apart, number_is}
 use Rattle.cv_calc_readback.proofs.Products.{times_head, scaled_none}
-use Rattle.cv_calc_readback.proofs.RowOrders.{IsRow, starts, has_number}
+use Rattle.cv_calc_readback.proofs.RowOrders.{IsRow}
 use Rattle.cv_calc_readback.proofs.ScaledSums.{times_calc, terms_scaled, scaled_row, scaled_are}
 
 abbrev plain : Ratio → Calc
@@ -156,10 +153,10 @@ form_row (measure {u} v m) row p = other_row row (tree.Num v u) p (measure_other
 form_row (sum {cs} t r) row p = other_row row (tree.Sum cs) p (record { form = sum t r; kind = ap other_head (head-Sum cs) })
 form_row (product n {x} t f) row p =
     subst Mixed (sym (ap (λ l. fold (with_child join) row (factors_as (tree.Product (plain n ∷ x ∷ [])) l)) (out-Product (plain n ∷ x ∷ []))))
-        (other_child (with_child join row (plain n)) x (plains_child row n p) (times_other f t))
+    (other_child (with_child join row (plain n)) x (plains_child row n p) (times_other f t))
 form_row (turned n {x} t f) row p =
     subst Mixed (sym (ap (λ l. fold (with_child join) row (factors_as (tree.Product (x ∷ plain n ∷ [])) l)) (out-Product (x ∷ plain n ∷ []))))
-        (mixed_child (with_child join row x) n (other_child row x p (times_other f t)))
+    (mixed_child (with_child join row x) n (other_child row x p (times_other f t)))
 form_row (least {c} {d} {cs} f a) row p = other_row row (tree.Min (c ∷ d ∷ cs)) p (record { form = least f a; kind = ap other_head (head-Min (c ∷ d ∷ cs)) })
 form_row (greatest {c} {d} {cs} f a) row p = other_row row (tree.Max (c ∷ d ∷ cs)) p (record { form = greatest f a; kind = ap other_head (head-Max (c ∷ d ∷ cs)) })
 form_row (limited {a} {b} {c} f g i j) row p = other_row row (tree.Clamp a b c) p (record { form = limited f g i j; kind = ap other_head (head-Clamp a b c) })
@@ -231,7 +228,7 @@ mixed_form _ (before n z o) =
     subst (λ (p : Option Ratio). IsForm (or_else (scaled_pair p (number_of z) (plain n) z) (tree.Product (plain n ∷ z ∷ [])))) (sym (number_of_plain n)) (before_form n z o (scaled_form n o.form o.kind))
 mixed_form _ (behind z n o) =
     subst (λ (p : Option Ratio). IsForm (or_else (scaled_pair p (number_of (plain n)) z (plain n)) (tree.Product (z ∷ plain n ∷ [])))) (sym (number_of_other (out-Calc z) o.kind))
-        (subst (λ (p : Option Ratio). IsForm (or_else (scaled_pair None p z (plain n)) (tree.Product (z ∷ plain n ∷ [])))) (sym (number_of_plain n)) (behind_form n z o (scaled_form n o.form o.kind)))
+    (subst (λ (p : Option Ratio). IsForm (or_else (scaled_pair None p z (plain n)) (tree.Product (z ∷ plain n ∷ [])))) (sym (number_of_plain n)) (behind_form n z o (scaled_form n o.form o.kind)))
 
 pub multiplied_form : (ds : List Calc) → AllButOne (IsNum Number) IsForm ds → IsForm (multiplied ds)
 multiplied_form ds k = mixed_form (product_row ds) (mixed_row [] ds nothing k)

@@ -1,5 +1,5 @@
 -- A number times a calculation into which it isn't multiplied: how its text reads, and that it stays.
-use Rattle.std.specs.Prelude.{ℕ, zero, suc, Bool, true, false, ◌&&◌, not, List, [], ◌∷◌, ◌++◌, fold, map, Option, Some, None, option_map, if◌then◌else◌}
+use Rattle.std.specs.Prelude.{ℕ, Bool, true, false, ◌&&◌, not, List, [], ◌∷◌, ◌++◌, fold, map, Option, Some, None, option_map}
 use Rattle.std.proofs.Common.{◌≡◌, refl, sym, ◌∙◌, ap, ap₂, subst, append_assoc}
 use Rattle.cv_spec_text.specs.declared.token.Token.{Token}
 use Rattle.cv_spec_text.specs.declared.token.Token.TheVariants as tokens
@@ -21,26 +21,26 @@ use Rattle.cv_calc.proofs.Shapes.{shape-Num, shape-Product}
 use Rattle.cv_calcread.specs.Figures as figures
 use Rattle.cv_calcread.specs.Figures.{Evaluated, evaluated}
 use Rattle.cv_calcread.specs.declared.figure.Joining.TheVariants.{Multiply}
-use Rattle.cv_calcread.specs.Grammar.{ReadsTerms, ReadsFactors, term, factor, times, none, white}
+use Rattle.cv_calcread.specs.Grammar.{ReadsTerms, term, factor, times, none, white}
 use Rattle.cv_calcread.specs.Literals.{exact_number}
 use Rattle.cv_calcread.proofs.Evaluations.{evaluated-Product}
-use Rattle.cv_simplify.specs.Counted.{Counted, counted, counted_step, inside, prefixes_inside}
+use Rattle.cv_simplify.specs.Counted.{Counted, counted, counted_step, inside}
 use Rattle.cv_simplify.specs.Simplified as simplified
-use Rattle.cv_simplify.specs.Text.{Written, written, unit_rank, last_rank, line_of, operator, ranked, number_placed}
+use Rattle.cv_simplify.specs.Text.{Written, written, line_of, ranked, number_placed}
 use Rattle.cv_simplify.specs.declared.place.Place.{Place}
-use Rattle.cv_simplify.specs.declared.place.Place.TheVariants.{Operand, Whole, Added, Multiplied, Argument}
+use Rattle.cv_simplify.specs.declared.place.Place.TheVariants.{Operand, Multiplied}
 use Rattle.cv_simplify.proofs.Texts.{written-Num, written-Product}
 use Rattle.cv_calc_readback.proofs.Answered.{all_fine}
 use Rattle.cv_calc_readback.proofs.Composites.{Composite}
-use Rattle.cv_calc_readback.proofs.Digits.{and_true, both_true}
+use Rattle.cv_calc_readback.proofs.Digits.{both_true}
 use Rattle.cv_calc_readback.proofs.Equations.{counted-Product, inside-Num, inside-Product, value-Product}
 use Rattle.cv_calc_readback.proofs.Heads.{Head, number, sum, product, negate, invert, least, greatest, clamp, head, head_as, head-Num, head-Product, is_num, nums_alone, joinable, none_joins, with_none}
-use Rattle.cv_calc_readback.proofs.Known.{Facts, Opening}
+use Rattle.cv_calc_readback.proofs.Known.{Opening}
 use Rattle.cv_calc_readback.proofs.Lines.{bracket_value, bracket_narrow}
 use Rattle.cv_calc_readback.proofs.Mixed.{Kind, lengths, percents, mixed, model, model_mixed}
-use Rattle.cv_calc_readback.proofs.Numbers.{KnownNumber, number_known, number_opens}
+use Rattle.cv_calc_readback.proofs.Numbers.{KnownNumber, number_known}
 use Rattle.cv_calc_readback.proofs.Numerals.{narrow, narrow_append}
-use Rattle.cv_calc_readback.proofs.Terms.{lp, Known, fine_fold, all_each}
+use Rattle.cv_calc_readback.proofs.Terms.{lp, Known, fine_fold}
 
 -- ---- what a number isn't multiplied into
 
@@ -204,7 +204,7 @@ module _ (n : Ratio) (x : Calc) (within : in_bounds n ≡ true) (h : times_head 
   product_whole : (rest : List Token) → ReadsTerms exact_number (line ++ rest) rest (read ∷ [])
   product_whole rest =
       subst (λ (ts : List Token). ReadsTerms exact_number ts rest (read ∷ [])) (sym (line_text rest))
-          (term (times (factor none (numeral.tokens.operand (tokens.White ∷ tokens.Delim 0x2a ∷ tokens.White ∷ ((written x).at_place Operand ++ rest)))) (white none) (white none) (k.opened.opens.operand rest)))
+      (term (times (factor none (numeral.tokens.operand (tokens.White ∷ tokens.Delim 0x2a ∷ tokens.White ∷ ((written x).at_place Operand ++ rest)))) (white none) (white none) (k.opened.opens.operand rest)))
 
   product_narrow : narrow line ≡ true
   product_narrow = narrow_append (number_placed Operand n Number) ((written x).at_place Multiplied) numeral.tokens.operand_narrow (ap narrow composite.multiplied ∙ k.opened.opens.operand_narrow)
@@ -213,7 +213,7 @@ module _ (n : Ratio) (x : Calc) (within : in_bounds n ≡ true) (h : times_head 
   product_fine =
       ap (λ (e : Evaluated). all_fine e.marks) (evaluated-Product (numeral.read ∷ k.opened.read ∷ []))
       ∙ fine_fold Multiply (figures.begun_with one_ratio) (numeral.read ∷ k.opened.read ∷ []) refl
-          (both_true (all_fine (evaluated numeral.read).marks) (all_fine (evaluated k.opened.read).marks && true) numeral.facts.fine (both_true (all_fine (evaluated k.opened.read).marks) true k.opened.facts.fine refl))
+      (both_true (all_fine (evaluated numeral.read).marks) (all_fine (evaluated k.opened.read).marks && true) numeral.facts.fine (both_true (all_fine (evaluated k.opened.read).marks) true k.opened.facts.fine refl))
 
   product_from : (cs : List Calc) → shape (tree.Product cs) ≡ shape (model k.kind) → line_of Multiplied (map written cs) ≡ line → ((m : Meaning) → value m simple ≡ value m (tree.Product cs)) → Known (tree.Product cs)
   product_from cs shaped text means = record {
@@ -254,4 +254,4 @@ module _ (n : Ratio) (x : Calc) (within : in_bounds n ≡ true) (h : times_head 
       (shape-Product (x ∷ tree.Num n Number ∷ []) ∙ ap₂ (λ s t. product_shape (s ∷ t ∷ [])) k.opened.facts.written_shape (shape-Num n Number) ∙ number_second k.kind)
       (ap₂ (λ (a b : Written). line_of Multiplied (a ∷ b ∷ [])) (as_last (written x) composite) (written-Num n Number) ∙ two_turned (λ place. number_placed place n Number) (written x).at_place)
       (λ m. value-Product m (tree.Num n Number ∷ k.simple ∷ []) ∙ ap (λ r. product_of (value m (tree.Num n Number) ∷ r ∷ [])) (k.opened.facts.means m)
-          ∙ swapped (value m (tree.Num n Number)) (value m x) ∙ sym (value-Product m (x ∷ tree.Num n Number ∷ [])))
+      ∙ swapped (value m (tree.Num n Number)) (value m x) ∙ sym (value-Product m (x ∷ tree.Num n Number ∷ [])))

@@ -1,16 +1,15 @@
 -- A number of a canonical unit, and the quotient of two whole numbers that it is.
-use Rattle.std.specs.Prelude.{ℕ, zero, suc, Bool, true, false, ◌&&◌, not, ◌<◌, ◌^◌, ℤ, pos, unsigned_abs, List, [], ◌∷◌, ◌++◌, map, fold, Option, Some, None, if◌then◌else◌}
+use Rattle.std.specs.Prelude.{ℕ, zero, suc, Bool, true, false, ◌&&◌, ◌<◌, ◌^◌, ℤ, pos, unsigned_abs, [], ◌∷◌, Some}
 use Rattle.std.specs.Ordering.{int_eq}
-use Rattle.std.proofs.Common.{◌≡◌, refl, sym, ◌∙◌, ap, ap₂, subst, arith}
+use Rattle.std.proofs.Common.{◌≡◌, refl, sym, ◌∙◌, ap, ap₂, arith}
 use Rattle.std.proofs.lemmas.Bool.Decides.{Decides-int_eq}
 use Rattle.cv_ratio.specs.Ratio.{Ratio, ratio, mul, reciprocal, one_ratio}
-use Rattle.cv_ratio.specs.Code.{ratio_self}
 use Rattle.cv_ratio.proofs.Whole.{whole_top}
 use Rattle.cv_ratio.proofs.Pairs.{reciprocal_pair}
 use Rattle.cv_ratio.proofs.Laws.{mul_one, mul_comm_ratio, whole-part}
 use Rattle.cv_frac.specs.Bounded.{in_bounds}
 use Rattle.cv_calc.specs.declared.unit.Unit as units
-use Rattle.cv_calc.specs.declared.unit.Unit.TheVariants.{Number, Percent, Px, Cm, Mm, Q, Inch, Pt, Pc, Em, Rem, Ex, Ch, Ic, Vw, Vh, Vmin, Vmax, Deg, Grad, Turn, S, Ms, Hz, Khz, Dppx, X, Dpi, Dpcm, Fr}
+use Rattle.cv_calc.specs.declared.unit.Unit.TheVariants.{Number, Percent, Px, Deg, S, Hz, Dppx, Fr}
 use Rattle.cv_calc.specs.declared.context.Basis.{Basis}
 use Rattle.cv_calc.specs.declared.context.Basis.TheVariants.{Plain, Length, Of}
 use Rattle.cv_calc.specs.declared.context.Context.{Context}
@@ -25,14 +24,13 @@ use Rattle.cv_calc.proofs.Shapes.{shape-Num, shape-Product, shape-Invert}
 use Rattle.cv_calcread.specs.Figures.{Evaluated, evaluated, product_of, divided, mark_of}
 use Rattle.cv_calcread.proofs.Evaluations.{evaluated-Num, evaluated-Product, evaluated-Invert}
 use Rattle.cv_simplify.specs.Canonical.{is_canonical}
-use Rattle.cv_simplify.specs.Counted.{Counted, counted, counted_step, inside, prefixes_inside}
+use Rattle.cv_simplify.specs.Counted.{Counted, counted, counted_step, inside}
 use Rattle.cv_simplify.specs.Simplified as simplified
 use Rattle.cv_simplify.proofs.Bounds.{inside_inverted}
 use Rattle.cv_calc_readback.specs.ReadsBack.{Keeps}
 use Rattle.cv_calc_readback.proofs.Answered.{all_fine}
 use Rattle.cv_calc_readback.proofs.Digits.{both_true}
 use Rattle.cv_calc_readback.proofs.Equations.{counted-Num, counted-Product, counted-Invert, inside-Num, inside-Product}
-use Rattle.cv_calc_readback.proofs.Heads.{head}
 use Rattle.cv_calc_readback.proofs.Known.{Facts}
 use Rattle.cv_calc_readback.proofs.Numerals.{whole_inside}
 
@@ -132,8 +130,8 @@ module _ (p : ℤ) (q : ℕ) (some : 0 < q) (small : q < 2 ^ 63) where
   quotient_fine : (u : units.Unit) → all_fine (evaluated (quotient p q u)).marks ≡ true
   quotient_fine u =
       ap (λ (e : Evaluated). all_fine e.marks)
-          (evaluated-Product (tree.Num (ratio p 1) u ∷ tree.Invert (tree.Num (ratio (pos q) 1) Number) ∷ [])
-          ∙ ap₂ (λ a b. product_of (a ∷ b ∷ [])) (evaluated-Num (ratio p 1) u) (evaluated-Invert (tree.Num (ratio (pos q) 1) Number) ∙ ap divided (evaluated-Num (ratio (pos q) 1) Number)))
+      (evaluated-Product (tree.Num (ratio p 1) u ∷ tree.Invert (tree.Num (ratio (pos q) 1) Number) ∷ [])
+      ∙ ap₂ (λ a b. product_of (a ∷ b ∷ [])) (evaluated-Num (ratio p 1) u) (evaluated-Invert (tree.Num (ratio (pos q) 1) Number) ∙ ap divided (evaluated-Num (ratio (pos q) 1) Number)))
       ∙ marked q some
 
   quotient_counted : (y : Context) (u : units.Unit) → unsigned_abs p < 2 ^ 63 → in_bounds (ratio p q) ≡ true → is_canonical u ≡ true → suits u y →

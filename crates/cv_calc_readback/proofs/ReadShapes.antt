@@ -1,9 +1,8 @@
 -- Where a negative stands in a tree that is read: only among the terms of a sum, other than first, and as no negative of a negative.
-use Rattle.std.specs.Prelude.{ℕ, Bool, true, false, ◌&&◌, List, [], ◌∷◌, ◌++◌, map, Option, Some, None}
+use Rattle.std.specs.Prelude.{ℕ, Bool, true, false, ◌&&◌, List, [], ◌∷◌, ◌++◌, map, Option, Some}
 use Rattle.std.proofs.Common.{◌≡◌, refl, sym, ◌∙◌, ap}
 use Rattle.cv_ratio.specs.Ratio.{Ratio}
 use Rattle.cv_spec_text.specs.declared.token.Token.{Token}
-use Rattle.cv_spec_text.specs.declared.token.Token.TheVariants as tokens
 use Rattle.cv_calc.specs.declared.calc.Calc.{Calc}
 use Rattle.cv_calc.specs.declared.calc.Calc.TheVariants as tree
 use Rattle.cv_calc.specs.declared.calc.Calc.TheOpen.{Calc-F, Num, Sum, Product, Negate, Invert, Min, Max, Clamp}

@@ -1,12 +1,11 @@
 -- What is asked of the terms of a sum, and what follows of them in the order of their text.
-use Rattle.std.specs.Prelude.{ℕ, zero, suc, ◌+◌, ◌==◌, nat_lt, ◌<◌, ◌≤◌, Bool, true, false, ◌&&◌, ◌||◌, not, List, [], ◌∷◌, ◌++◌, map, length, if◌then◌else◌}
+use Rattle.std.specs.Prelude.{ℕ, suc, ◌+◌, ◌==◌, nat_lt, ◌≤◌, Bool, true, false, ◌&&◌, ◌||◌, not, List, [], ◌∷◌, ◌++◌, map, length}
 use Rattle.std.specs.List.{filter}
-use Rattle.std.proofs.Common.{◌≡◌, refl, sym, ◌∙◌, ap, ap₂, subst, arith}
+use Rattle.std.proofs.Common.{◌≡◌, refl, sym, ◌∙◌, ap, arith}
 use Rattle.std.proofs.lemmas.Bool.Decides.{nat_tests}
-use Rattle.cv_calc.specs.declared.unit.Unit as units
 use Rattle.cv_calc.specs.declared.calc.Calc.{Calc}
 use Rattle.cv_simplify.specs.Simplified.{any_unit}
-use Rattle.cv_calc_readback.proofs.Digits.{and_true, both_true}
+use Rattle.cv_calc_readback.proofs.Digits.{and_true}
 use Rattle.cv_calc_readback.proofs.Heads.{Head, number, sum, product, negate, invert, least, greatest, clamp, head, is_negate, is_number, is_sum, apart, not_true}
 use Rattle.cv_calc_readback.proofs.Orders.{pairs_apart, apart_pairs, text_rank, in_text_order, low_number, all_low, ranks_low, pairs_ranks}
 use Rattle.cv_calc_readback.proofs.Ranks.{has_rank, in_ranks, total, total_in_ranks}

@@ -1,5 +1,5 @@
 -- A number multiplied into a sum of numbers, which keeps the form of a sum.
-use Rattle.std.specs.Prelude.{ℕ, suc, Bool, true, false, ◌&&◌, ◌||◌, not, List, [], ◌∷◌, map, length, ◌≤◌, Option, Some, None}
+use Rattle.std.specs.Prelude.{ℕ, suc, Bool, true, ◌&&◌, ◌||◌, not, List, [], ◌∷◌, map, length, ◌≤◌, Some}
 use Rattle.std.proofs.Common.{◌≡◌, refl, sym, ◌∙◌, ap, ap₂, subst}
 use Rattle.cv_ratio.specs.Ratio.{Ratio, mul}
 use Rattle.cv_calc.specs.declared.unit.Unit as units

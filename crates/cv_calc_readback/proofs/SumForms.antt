@@ -1,17 +1,16 @@
 -- A sum of simplified terms has the form of a sum, or is its one term.
-use Rattle.std.specs.Prelude.{ℕ, Bool, true, false, ◌&&◌, ◌||◌, not, List, [], ◌∷◌, ◌++◌, map, fold, length, ◌≤◌, Option, Some, None, if◌then◌else◌}
-use Rattle.std.proofs.Common.{◌≡◌, refl, sym, ◌∙◌, ap, ap₂, subst, arith}
-use Rattle.cv_ratio.specs.Ratio.{Ratio, add}
-use Rattle.cv_calc.specs.declared.unit.Unit as units
+use Rattle.std.specs.Prelude.{Bool, true, false, ◌&&◌, ◌||◌, not, List, [], ◌∷◌, map, fold, Option, Some, None}
+use Rattle.std.proofs.Common.{◌≡◌, refl, sym, ◌∙◌, ap, subst, arith}
+use Rattle.cv_ratio.specs.Ratio.{add}
 use Rattle.cv_calc.specs.declared.unit.Unit.TheVariants.{Number}
 use Rattle.cv_calc.specs.declared.calc.Calc.{Calc}
 use Rattle.cv_calc.specs.declared.calc.Calc.TheVariants as tree
 use Rattle.cv_calc.specs.Tree.{out-Sum}
 use Rattle.cv_simplify.specs.Simplified.{any_unit, joined_by, join_first, with_child, one_or, terms_as, terms_of, with_terms_of, sum_row, summed}
-use Rattle.cv_calc_readback.proofs.Digits.{and_true, both_true}
+use Rattle.cv_calc_readback.proofs.Digits.{and_true}
 use Rattle.cv_calc_readback.proofs.FormRows.{Joins, joins, row_pairs, terms_row, flat_row, numbers_row, either_true}
 use Rattle.cv_calc_readback.proofs.Forms.{IsForm, measure, sum, product, turned, least, greatest, limited, IsTerm, plus, minus, AreTerms, no_terms, terms}
-use Rattle.cv_calc_readback.proofs.Heads.{Head, number, head, head-Num, head-Sum, head-Product, head-Negate, head-Min, head-Max, head-Clamp, is_negate, is_number, is_sum, row_apart, terms_alone, not_true}
+use Rattle.cv_calc_readback.proofs.Heads.{Head, head, head-Num, head-Product, head-Negate, head-Min, head-Max, head-Clamp, is_negate, is_sum, row_apart, terms_alone, not_true}
 use Rattle.cv_calc_readback.proofs.Orders.{pairs_apart, apart_pairs}
 use Rattle.cv_calc_readback.proofs.RowOrders.{IsRow, starts, has_number}
 use Rattle.cv_calc_readback.proofs.Sums.{no_sums}

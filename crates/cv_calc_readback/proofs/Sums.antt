@@ -1,10 +1,10 @@
 -- A sum of terms that aren't joined: how its text reads, and that it stays.
-use Rattle.std.specs.Prelude.{ℕ, zero, suc, nat_lt, Bool, true, false, ◌&&◌, not, List, [], ◌∷◌, ◌++◌, fold, map, Option, Some, None, if◌then◌else◌}
+use Rattle.std.specs.Prelude.{ℕ, nat_lt, Bool, true, false, ◌&&◌, not, List, [], ◌∷◌, ◌++◌, fold, map, Some, None}
 use Rattle.std.proofs.Common.{◌≡◌, refl, sym, ◌∙◌, ap, ap₂, subst, append_assoc}
 use Rattle.std.proofs.lemmas.List.{append-nil}
 use Rattle.std.proofs.lemmas.List.Sums.{fold-append}
 use Rattle.cv_spec_text.specs.declared.token.Token.{Token}
-use Rattle.cv_ratio.specs.Ratio.{Ratio, add, zero_ratio}
+use Rattle.cv_ratio.specs.Ratio.{add, zero_ratio}
 use Rattle.cv_calc.specs.declared.unit.Unit as units
 use Rattle.cv_calc.specs.declared.unit.Unit.TheVariants as unit
 use Rattle.cv_calc.specs.declared.context.Context.{Context}
@@ -22,21 +22,21 @@ use Rattle.cv_calcread.specs.declared.figure.Joining.TheVariants.{Add}
 use Rattle.cv_calcread.specs.Grammar.{ReadsTerms, term, factor, none}
 use Rattle.cv_calcread.specs.Literals.{exact_number}
 use Rattle.cv_calcread.proofs.Evaluations.{evaluated-Sum}
-use Rattle.cv_simplify.specs.Counted.{Counted, counted, counted_step, inside, all_inside, longer_inside, prefixes_inside, children_in_range}
-use Rattle.cv_simplify.specs.Simplified.{any_unit, joined_by, with_child as with_calc, one_or, sum_row, summed, with_terms_of, terms_of}
-use Rattle.cv_simplify.specs.Text.{Written, Line, with_child, no_line, written, unit_rank, line_of, placed, last_rank}
-use Rattle.cv_simplify.specs.declared.place.Place.TheVariants.{Operand, Whole, Added, Argument}
+use Rattle.cv_simplify.specs.Counted.{Counted, counted, counted_step, inside, all_inside, longer_inside, prefixes_inside}
+use Rattle.cv_simplify.specs.Simplified.{any_unit, joined_by, with_child as with_calc, one_or, sum_row, summed, with_terms_of}
+use Rattle.cv_simplify.specs.Text.{Written, with_child, no_line, written, unit_rank, line_of}
+use Rattle.cv_simplify.specs.declared.place.Place.TheVariants.{Operand, Added}
 use Rattle.cv_simplify.proofs.Texts.{written-Num, written-Sum, written-Product, written-Negate, written-Invert, written-Min, written-Max, written-Clamp}
 use Rattle.cv_calc_readback.proofs.Answered.{all_fine}
 use Rattle.cv_calc_readback.proofs.Digits.{and_true, both_true}
 use Rattle.cv_calc_readback.proofs.Equations.{counted-Sum, inside-Sum, inside_append}
 use Rattle.cv_calc_readback.proofs.Heads.{Head, sum, head, head-Sum, is_negate, is_number, is_sum, apart, none_joins, with_none, map_append, numbers_alone, nums_are, terms_alone, not_true}
-use Rattle.cv_calc_readback.proofs.Known.{Facts, Opening, Adding}
+use Rattle.cv_calc_readback.proofs.Known.{Facts, Opening}
 use Rattle.cv_calc_readback.proofs.Lines.{rank_of, line_is, bracket_value, bracket_narrow}
-use Rattle.cv_calc_readback.proofs.Mixed.{Kind, model, join, merge, merge_comm, merge_assoc, merge_none, merged, joined_kind, joined_merged, sum_kinds}
+use Rattle.cv_calc_readback.proofs.Mixed.{Kind, model, merge, merge_comm, merge_assoc, merge_none, merged, joined_kind, joined_merged, sum_kinds}
 use Rattle.cv_calc_readback.proofs.Numerals.{narrow}
 use Rattle.cv_calc_readback.proofs.Ranks.{in_ranks, in_ranks_map, total, total_in_ranks}
-use Rattle.cv_calc_readback.proofs.Terms.{lp, Opened, Known, Term, Entry, calcs, reads, simples, kinds, texts, shapes_written, shapes_read, shapes_simple, heads_same, within_all, in_range, counted_all, simple_of_all, children_all, fine_fold, fine_all, all_each, line_added, line_narrow}
+use Rattle.cv_calc_readback.proofs.Terms.{lp, Opened, Known, Entry, calcs, reads, simples, kinds, texts, shapes_written, shapes_read, shapes_simple, heads_same, within_all, in_range, counted_all, simple_of_all, children_all, fine_fold, fine_all, all_each, line_added, line_narrow}
 
 -- ---- rows of terms
 
@@ -205,8 +205,8 @@ module _ (es : List Entry) (first second : Entry) (rest : List Entry) (order : s
       ∙ ap₂ (λ cs b. record { simple = summed cs; in_range = (b && prefixes_inside summed cs) && inside (summed cs) }) (simple_of_all (simples all)) (children_all (simples all))
       ∙ ap (λ row. record { simple = one_or tree.Sum row; in_range = prefixes_inside summed (simples all) && inside (one_or tree.Sum row) }) row_all.row
       ∙ ap (λ b. record { simple = tree.Sum (simples all); in_range = b })
-          (both_true (prefixes_inside summed (simples all)) (inside (tree.Sum (simples all)))
-              (both_true (inside (summed [])) (longer_inside summed [] (simples all)) (inside-Sum []) row_all.prefixes) inside_sum)
+      (both_true (prefixes_inside summed (simples all)) (inside (tree.Sum (simples all)))
+      (both_true (inside (summed [])) (longer_inside summed [] (simples all)) (inside-Sum []) row_all.prefixes) inside_sum)
 
   sum_means : (m : Meaning) → value m (tree.Sum (simples all)) ≡ value m (tree.Sum (calcs es))
   sum_means m =
@@ -236,12 +236,12 @@ module _ (es : List Entry) (first second : Entry) (rest : List Entry) (order : s
   line_all =
       line_is Added (map written (calcs es))
       ∙ ap (λ ws. (fold (with_child Operand Added) no_line ws).line)
-          (ap (in_ranks rank_of 31) (written_calcs es) ∙ sym (in_ranks_map rank rank_of (λ (e : Entry). written e.calc) (λ e. refl) 31 es) ∙ ap texts order)
+      (ap (in_ranks rank_of 31) (written_calcs es) ∙ sym (in_ranks_map rank rank_of (λ (e : Entry). written e.calc) (λ e. refl) 31 es) ∙ ap texts order)
 
   whole_all : (after : List Token) → ReadsTerms exact_number (line_of Added (map written (calcs es)) ++ after) after read_all
   whole_all after =
       subst (λ (ts : List Token). ReadsTerms exact_number (ts ++ after) after read_all) (sym line_all)
-          (line_added ((written first.calc).at_place Operand) (o.read ∷ []) others (λ r. term (factor none (o.opens.operand r))) after)
+      (line_added ((written first.calc).at_place Operand) (o.read ∷ []) others (λ r. term (factor none (o.opens.operand r))) after)
 
   narrow_all : narrow (line_of Added (map written (calcs es))) ≡ true
   narrow_all = ap narrow line_all ∙ line_narrow ((written first.calc).at_place Operand) others o.opens.operand_narrow

@@ -1,21 +1,18 @@
 -- The terms of a sum: each with what it reads as, what that simplifies to, and its kind.
-use Rattle.std.specs.Prelude.{ℕ, zero, suc, Bool, true, false, ◌&&◌, not, List, [], ◌∷◌, ◌++◌, fold, map, Option, Some, None, if◌then◌else◌}
-use Rattle.std.proofs.Common.{◌≡◌, refl, sym, ◌∙◌, ap, ap₂, subst, append_assoc}
+use Rattle.std.specs.Prelude.{Bool, true, false, ◌&&◌, List, [], ◌∷◌, ◌++◌, fold, map}
+use Rattle.std.proofs.Common.{◌≡◌, refl, sym, ap, ap₂, subst, append_assoc}
 use Rattle.std.proofs.lemmas.List.{append-nil}
 use Rattle.cv_spec_text.specs.declared.token.Token.{Token}
 use Rattle.cv_calc.specs.declared.context.Basis.TheVariants.{Length}
 use Rattle.cv_calc.specs.declared.context.Context.{Context}
 use Rattle.cv_calc.specs.declared.calc.Calc.{Calc}
-use Rattle.cv_calc.specs.declared.calc.Calc.TheVariants as tree
 use Rattle.cv_calc.specs.Linear.{shape}
-use Rattle.cv_calc.specs.Value.{Meaning, value}
 use Rattle.cv_calcread.specs.Figures.{Evaluated, evaluated, with_part}
 use Rattle.cv_calcread.specs.declared.figure.Joining.{Joining}
-use Rattle.cv_calcread.specs.Grammar.{ReadsTerms, term, factor, none}
+use Rattle.cv_calcread.specs.Grammar.{ReadsTerms}
 use Rattle.cv_calcread.specs.Literals.{exact_number}
-use Rattle.cv_calcread.specs.Reading.{one_or}
-use Rattle.cv_simplify.specs.Counted.{Counted, counted, inside, all_inside, all_true, children_in_range}
-use Rattle.cv_simplify.specs.Text.{Written, Line, with_child, written}
+use Rattle.cv_simplify.specs.Counted.{Counted, counted, inside, all_inside, children_in_range}
+use Rattle.cv_simplify.specs.Text.{Written, with_child, written}
 use Rattle.cv_simplify.specs.declared.place.Place.TheVariants.{Operand, Added}
 use Rattle.cv_calc_readback.proofs.Answered.{all_fine, fine_append}
 use Rattle.cv_calc_readback.proofs.Digits.{and_true, both_true}
@@ -125,8 +122,8 @@ line_added line ds [] h rest = subst (λ (cs : List Calc). ReadsTerms exact_numb
 line_added line ds (e ∷ es) h rest =
     let at = (written e.calc).at_place Added in
     subst (λ (cs : List Calc). ReadsTerms exact_number ((fold (with_child Operand Added) (record { line = line ++ at; started = true }) (texts es)).line ++ rest) rest cs)
-        (append_assoc ds (e.term.read ∷ []) (reads es))
-        (line_added (line ++ at) (ds ++ e.term.read ∷ []) es (λ r. more r) rest)
+    (append_assoc ds (e.term.read ∷ []) (reads es))
+    (line_added (line ++ at) (ds ++ e.term.read ∷ []) es (λ r. more r) rest)
   where
     more : (r : List Token) → ReadsTerms exact_number ((line ++ (written e.calc).at_place Added) ++ r) r (ds ++ e.term.read ∷ [])
     more r = e.term.adds.added (subst (λ (ts : List Token). ReadsTerms exact_number ts ((written e.calc).at_place Added ++ r) ds) (sym (append_assoc line ((written e.calc).at_place Added) r)) (h ((written e.calc).at_place Added ++ r)))
