@@ -1,2 +1,4 @@
 pub mod Arguments
+pub mod Back
 pub mod NoMatch
+pub mod Written

@@ -1,3 +1,4 @@
 pub mod Alike
 pub mod Channels
 pub mod Colors
+pub mod ReadsBack

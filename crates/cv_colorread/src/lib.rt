@@ -10,5 +10,5 @@ mod laws;
 mod tests;
 
 pub use color::read_color;
-pub use laws::mismatch_is_alike;
+pub use laws::{colors_read_back, mismatch_is_alike};
 pub use std::alloc::AllocError as OutOfMemory;
