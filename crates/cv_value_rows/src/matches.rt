@@ -52,20 +52,22 @@ const ROWS: [(&str, &str, &str); 40] = [
     ("<integer> | <number>", "calc(1.5)", "2"),
 ];
 
-const CONTEXT: Context = Context {
-    em: Frac::whole(20),
-    rem: Frac::whole(16),
-    width: 1280,
-    height: 720,
-    basis: Basis::Of(Frac::whole(100)),
-};
+fn context() -> Context {
+    Context {
+        em: Frac::whole(20),
+        rem: Frac::whole(16),
+        width: 1280,
+        height: 720,
+        basis: Basis::Of(Frac::whole(100)),
+    }
+}
 
 // The typed value of a text.
 fn typed(alloc: Global, syntax: &str, text: &str) -> Result<Typed, ValueErr> {
     let tokens = tokenise(alloc, text)?;
     match parse_syntax(alloc, syntax) {
         Ok(Syntax::Any) => Err(ValueErr::Mismatch),
-        Ok(syntax) => match_syntax(alloc, &syntax, &tokens, &CONTEXT),
+        Ok(syntax) => match_syntax(alloc, &syntax, &tokens, &context()),
         Err(SyntaxErr::Memory) => Err(ValueErr::Memory),
         Err(_) => Err(ValueErr::Mismatch),
     }
