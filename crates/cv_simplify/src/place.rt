@@ -11,7 +11,7 @@ use std::alloc::{AllocError, Global};
 
 /// Where a calculation stands: as the first within a sum or product, alone or as the first argument, or after a sign or a comma.
 #[derive(Clone, Copy)]
-pub(crate) enum Place {
+pub enum Place {
     Operand,
     Whole,
     Added,

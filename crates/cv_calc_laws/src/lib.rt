@@ -1,0 +1,8 @@
+//! Laws of calculations by the kind of their type and by context.
+#![tactic(auto)]
+
+mod fonts;
+mod single;
+
+pub use fonts::{contexts_differ_in_fonts, font_units_are_told, texts_are_free, units_are_read};
+pub use single::{answers_are_numbers, calculations_are_numbers, lengths_are_numbers};
