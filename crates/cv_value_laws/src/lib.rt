@@ -1,6 +1,8 @@
 //! Laws of matching: what contexts change, and how texts of lists are split.
 #![tactic(auto)]
 
+mod contexts;
 mod lists;
 
+pub use contexts::numbers_read_alike;
 pub use lists::entries_are_split;
