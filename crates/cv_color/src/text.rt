@@ -1,6 +1,7 @@
 // The text of a colour.
 ghost use Rattle.std.specs.Prelude.{◌≡◌, ◌∷◌, [], ◌++◌, IfOk, OnOk, IsAscii, codes};
 ghost use Rattle.cv_spec_text.specs.declared.token.Token.{Token};
+ghost use Rattle.cv_tokser.specs.Clean.{IsClean};
 ghost use Rattle.cv_color.specs.Text.{separated, channel_text, channels_text, alpha_text, closing, color_text};
 
 use crate::color::Color;
@@ -53,16 +54,18 @@ fn opened(alloc: Global, name: &str, r: u8, g: u8, b: u8) -> Result<Vec<Token>, 
 }
 
 /// A colour that hides what is behind it.
+#[tactic(auto, using(crate::proofs::CleanText::clean_opaque))]
 fn opaque_tokens(alloc: Global, r: u8, g: u8, b: u8) -> Result<Vec<Token>, AllocError>
-    ensures { IfOk result (λ ts. ts.items ≡ Token.Function (codes "rgb") ∷ channels_text r g b ++ closing) }
+    ensures tokens { IfOk result (λ ts. ts.items ≡ Token.Function (codes "rgb") ∷ channels_text r g b ++ closing) }
+    ensures clean { IfOk result (λ ts. IsClean ts.items) }
 {
     let mut tokens = opened(alloc, "rgb", r, g, b)?;
     tokens.push(Token::Close(Bracket::Round))?;
     Ok(tokens)
 }
 
-/// A colour with its alpha.
-fn alpha_tokens(alloc: Global, r: u8, g: u8, b: u8, a: Frac) -> Result<Vec<Token>, AllocError>
+/// The tokens of a colour with its alpha.
+fn alpha_list(alloc: Global, r: u8, g: u8, b: u8, a: Frac) -> Result<Vec<Token>, AllocError>
     ensures { IfOk result (λ ts. ts.items ≡ Token.Function (codes "rgba") ∷ channels_text r g b ++ separated (alpha_text a) ++ closing) }
 {
     let mut tokens = opened(alloc, "rgba", r, g, b)?;
@@ -73,8 +76,18 @@ fn alpha_tokens(alloc: Global, r: u8, g: u8, b: u8, a: Frac) -> Result<Vec<Token
     Ok(tokens)
 }
 
+/// A colour with its alpha.
+fn alpha_tokens(alloc: Global, r: u8, g: u8, b: u8, a: Frac) -> Result<Vec<Token>, AllocError>
+    ensures tokens { IfOk result (λ ts. ts.items ≡ Token.Function (codes "rgba") ∷ channels_text r g b ++ separated (alpha_text a) ++ closing) }
+    ensures clean { IfOk result (λ ts. IsClean ts.items) }
+{
+    Ok(alpha_list(alloc, r, g, b, a)?)
+}
+
+#[tactic(auto, using(crate::proofs::CleanText::clean_current))]
 fn current_tokens(alloc: Global) -> Result<Vec<Token>, AllocError>
-    ensures { IfOk result (λ ts. ts.items ≡ Token.Ident (codes "currentcolor") ∷ []) }
+    ensures tokens { IfOk result (λ ts. ts.items ≡ Token.Ident (codes "currentcolor") ∷ []) }
+    ensures clean { IfOk result (λ ts. IsClean ts.items) }
 {
     let mut tokens = Vec::new(alloc);
     tokens.push(Token::Ident(ascii_name(alloc, "currentcolor")?))?;
@@ -84,7 +97,8 @@ fn current_tokens(alloc: Global) -> Result<Vec<Token>, AllocError>
 /// The text of a colour, as tokens: `rgb(255, 0, 0)`, or `rgba(0, 0, 0, calc(1 / 3))` where the alpha isn't 1 (CSS Color 4, "Serializing
 /// sRGB values"). The alpha is exact.
 pub fn color_tokens(alloc: Global, c: &Color) -> Result<Vec<Token>, AllocError>
-    ensures { IfOk result (λ ts. ts.items ≡ color_text c.now) }
+    ensures tokens { IfOk result (λ ts. ts.items ≡ color_text c.now) }
+    ensures clean { IfOk result (λ ts. IsClean ts.items) }
 {
     match c {
         Color::Current => current_tokens(alloc),
