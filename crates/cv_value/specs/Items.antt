@@ -6,9 +6,11 @@ use Rattle.cv_spec_text.specs.declared.token.Bracket.TheVariants.{Round}
 use Rattle.cv_spec_text.specs.declared.token.Token.{Token}
 use Rattle.cv_spec_text.specs.declared.token.Token.TheVariants as token
 use Rattle.cv_component.specs.TopLevel.{trim_front}
+use Rattle.cv_calc.specs.declared.unit.Unit.{Unit}
 use Rattle.cv_calc.specs.declared.unit.Unit.TheVariants.{Px, Percent}
 use Rattle.cv_calc.specs.declared.context.Context.{Context}
 use Rattle.cv_calc.specs.declared.calc.Calc.{Calc}
+use Rattle.cv_calc.specs.declared.calc.Calc.TheVariants as tree
 use Rattle.cv_calc.specs.declared.calc.Calc.TheOpen as layer
 use Rattle.cv_calc.specs.declared.calc.Calc.TheViews.{out-Calc}
 use Rattle.cv_numeric.specs.declared.matched.Matched.{Matched}
@@ -16,16 +18,20 @@ use Rattle.cv_numeric.specs.declared.matched.Matched.TheVariants.{No, Out, Fit}
 use Rattle.cv_numeric.specs.declared.quantity.Range.TheVariants.{All}
 use Rattle.cv_numeric.specs.Matched.{mapped}
 use Rattle.cv_numeric.specs.Numeric as numeric
-use Rattle.cv_colorread.specs.Colors.{color}
+use Rattle.cv_value.specs.Colors.{color}
 use Rattle.cv_syntax.specs.declared.syntax.Kind.{Kind}
 use Rattle.cv_syntax.specs.declared.syntax.Kind.TheVariants as kinds
 use Rattle.cv_value.specs.declared.typed.Item.{Item}
 use Rattle.cv_value.specs.declared.typed.Item.TheVariants as item_of
 
 -- one number of px or of percent, or a calculation with both
+abbrev pub numeral_item : Ratio → Unit → Item
+numeral_item v Px = item_of.Length v
+numeral_item v Percent = item_of.Percentage v
+numeral_item v u = item_of.Mixed (tree.Num v u)
+
 abbrev pub mixed_as : Calc → layer.Calc-F Calc → Item
-mixed_as c (layer.Num v Px) = item_of.Length v
-mixed_as c (layer.Num v Percent) = item_of.Percentage v
+mixed_as c (layer.Num v u) = numeral_item v u
 mixed_as c l = item_of.Mixed c
 
 abbrev pub mixed_item : Calc → Item

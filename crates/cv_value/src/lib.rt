@@ -2,6 +2,7 @@
 #![tactic(auto)]
 
 mod many;
+mod colour;
 pub mod error;
 mod single;
 mod list;

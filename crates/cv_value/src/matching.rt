@@ -2,8 +2,6 @@
 
 ghost use Rattle.std.specs.Prelude.{◌≡◌, All, IfOk, Err};
 ghost use Rattle.cv_spec_text.specs.Splits.{IsSpelt};
-ghost use Rattle.cv_numeric.specs.declared.matched.Matched as outcomes;
-ghost use Rattle.cv_syntax.specs.declared.syntax.Syntax as syntaxes;
 ghost use Rattle.cv_value.specs.Matching as matching;
 
 use crate::many::component;
@@ -62,7 +60,7 @@ fn matched(
 /// `Mismatch` where the list matches no component; `Range` where it matches one, but a number in it or in its calculations is out of
 /// range; `Memory`.
 pub fn match_syntax(alloc: Global, syntax: &Syntax, tokens: &[Token], x: &Context) -> Result<Typed, ValueErr>
-    requires typed { syntax.now ≡ syntaxes.Any → ⊥ }
+    requires typed { syntax.now ≡ Syntax.Any → ⊥ }
     requires spelt { All IsSpelt tokens.now }
     ensures ok { IfOk result (λ v. matching.matching syntax.now x.now tokens.now ≡ Matched.Fit v) }
     ensures mismatch { result ≡ Err ValueErr.Mismatch → matching.matching syntax.now x.now tokens.now ≡ Matched.No }

@@ -7,7 +7,7 @@ ghost use Rattle.cv_value.specs.Items as items;
 use crate::typed::Item;
 use cv_calc::{Calc, Context, Unit};
 use cv_color::Color;
-use cv_colorread::read_color;
+use crate::colour::read_color;
 use cv_component::trim_front;
 use cv_frac::Frac;
 use cv_numeric::{
@@ -17,13 +17,23 @@ use cv_spec_text::{Bracket, Name, Token};
 use cv_syntax::Kind;
 use std::alloc::{AllocError, Global};
 
+/// One number of a unit as a length or a percentage.
+fn numeral_item(v: Frac, unit: Unit) -> Item
+    ensures { result ≡ items.numeral_item v unit }
+{
+    match unit {
+        Unit::Px => Item::Length(v),
+        Unit::Percent => Item::Percentage(v),
+        other => Item::Mixed(Calc::Num(v, other)),
+    }
+}
+
 /// A length, a percentage or both together, as an item.
 fn mixed_item(c: Calc) -> Item
     ensures { result ≡ items.mixed_item c }
 {
     match c {
-        Calc::Num(v, Unit::Px) => Item::Length(v),
-        Calc::Num(v, Unit::Percent) => Item::Percentage(v),
+        Calc::Num(v, unit) => numeral_item(v, unit),
         other => Item::Mixed(other),
     }
 }

@@ -101,7 +101,8 @@ fn push_separator(all: &mut Vec<Token>, commas: bool) -> Result<(), AllocError>
     if commas {
         all.push(Token::Comma)?;
     }
-    all.push(Token::White)
+    all.push(Token::White)?;
+    Ok(())
 }
 
 /// The text of a list.
