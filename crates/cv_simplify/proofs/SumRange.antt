@@ -14,7 +14,8 @@ use Rattle.cv_simplify.specs.Simplified.{joined_as, join_first, with_child, any_
 use Rattle.cv_simplify.specs.Checked.{only_if, with_further, with_terms, with_simple}
 use Rattle.cv_simplify.proofs.Folds.{stays}
 use Rattle.cv_simplify.proofs.InRange.{inside-roll, inside-Sum, and_true, both_true, term_checked}
-use Rattle.cv_simplify.proofs.Settled.{known, Known, known-roll, kind, kinds_of, same_kind, none_of, differ, joined_is, joins, settled, terms_settled}
+use Rattle.cv_simplify.proofs.Apart.{known, Known, known-roll, kind, kinds_of, same_kind, none_of, differ, joined_is, joins, settled}
+use Rattle.cv_simplify.proofs.Settled.{terms_settled}
 
 -- an item is out of bounds and has the unit
 abbrev spoils : Option units.Unit → Calc → Bool

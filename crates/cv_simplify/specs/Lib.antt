@@ -6,3 +6,5 @@ pub mod Number
 pub mod Row
 pub mod Simplified
 pub mod Text
+pub mod TypeIn
+pub mod UnitOrder

@@ -3,10 +3,12 @@
 ghost use Rattle.std.specs.Prelude.{◌≡◌, true, false, IfOk, OnOk, option_map, map};
 ghost use Rattle.std.specs.Option.{option_and_then};
 ghost use Rattle.cv_calc.specs.Linear.{is_linear};
+ghost use Rattle.cv_calc.specs.Types.{type_of};
 ghost use Rattle.cv_simplify.specs.Simplified.{one_or, compares_percent, simp};
 ghost use Rattle.cv_simplify.specs.Agrees.{KeepsValue};
 ghost use Rattle.cv_simplify.specs.Canonical.{holds_canonical};
 ghost use Rattle.cv_simplify.specs.Counted.{is_in_range};
+ghost use Rattle.cv_simplify.specs.TypeIn.{type_in};
 ghost use Rattle.cv_simplify.specs.Checked.{checked as checked_of, row_within, factors_within, shown as shown_of};
 
 use crate::error::SimpErr;
@@ -164,6 +166,7 @@ pub fn simplify(alloc: Global, c: &Calc, x: &Context) -> Result<Calc, SimpErr>
     ensures range { result ≡ Err SimpErr.Range → is_in_range x.now c.now ≡ false }
     ensures units { IfOk result (λ s. holds_canonical s ≡ true) }
     ensures kept { IfOk result (KeepsValue x.now c.now) }
+    ensures type_kept { IfOk result (λ s. type_of s ≡ type_in x.now.basis c.now) }
 {
     match checked(alloc, c, x)? {
         Some(simple) => Ok(simple),

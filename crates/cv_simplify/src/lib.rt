@@ -6,6 +6,7 @@ pub mod error;
 mod exact;
 mod factors;
 mod joining;
+mod laws;
 mod number;
 mod place;
 mod row;
@@ -17,4 +18,5 @@ mod tokens;
 
 pub use calculation::simplify;
 pub use error::SimpErr;
+pub use laws::ranks_are_byte_order;
 pub use text::calc_tokens;

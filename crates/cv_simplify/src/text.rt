@@ -1,6 +1,7 @@
 //! The text of a calculation, as tokens.
 
-ghost use Rattle.std.specs.Prelude.{◌≡◌, IfOk, map};
+ghost use Rattle.std.specs.Prelude.{◌≡◌, IfOk, map, All};
+ghost use Rattle.cv_spec_text.specs.Splits.{IsSpelt};
 ghost use Rattle.cv_simplify.specs.Text.{unit_rank as rank_of_unit, written, with_ranked as line_with_ranked, line_of, arguments_of, calc_text};
 
 use crate::place::{
@@ -169,9 +170,9 @@ fn arguments(alloc: Global, children: &[Calc]) -> Result<Vec<Token>, AllocError>
     Ok(line)
 }
 
-/// The text of a calculation (CSS Values and Units 4, "Serialization"), as tokens: `calc(5% + 3px)` for the sum of 3px and 5%.
+/// The tokens of a calculation that stands alone.
 #[tactic(auto, unfolding(crate::specs::Text::calc_text))]
-pub fn calc_tokens(alloc: Global, c: &Calc) -> Result<Vec<Token>, AllocError>
+fn whole(alloc: Global, c: &Calc) -> Result<Vec<Token>, AllocError>
     ensures { IfOk result (λ ts. ts.items ≡ calc_text c.now) }
 {
     match c {
@@ -184,4 +185,12 @@ pub fn calc_tokens(alloc: Global, c: &Calc) -> Result<Vec<Token>, AllocError>
             call(alloc, b"calc", inner)
         }
     }
+}
+
+/// The text of a calculation (CSS Values and Units 4, "Serialization"), as tokens: `calc(5% + 3px)` for the sum of 3px and 5%.
+pub fn calc_tokens(alloc: Global, c: &Calc) -> Result<Vec<Token>, AllocError>
+    ensures text { IfOk result (λ ts. ts.items ≡ calc_text c.now) }
+    ensures spelt { IfOk result (λ ts. All IsSpelt ts.items) }
+{
+    whole(alloc, c)
 }
