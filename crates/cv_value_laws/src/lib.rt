@@ -5,4 +5,4 @@ mod contexts;
 mod lists;
 
 pub use contexts::numbers_read_alike;
-pub use lists::entries_are_split;
+pub use lists::{entries_are_split, texts_are_split};
