@@ -101,7 +101,7 @@ rgba_spelt : IsSpelt (Function (codes "rgba"))
 unfolding is_ascii_text run_values run_length first_row name_row name_piece_length name_piece_value begins_name number_length mantissa_length fraction_length exponent_length
 rgba_spelt = computed (codes "rgba(") (Function (codes "rgba")) refl refl
 
-pub current_spelt : IsSpelt (Ident (codes "currentcolor"))
+current_spelt : IsSpelt (Ident (codes "currentcolor"))
 unfolding is_ascii_text run_values run_length first_row name_row name_piece_length name_piece_value begins_name number_length mantissa_length fraction_length exponent_length
 current_spelt = computed (codes "currentcolor") (Ident (codes "currentcolor")) refl refl
 
@@ -119,8 +119,11 @@ close_spelt = computed (codes ")") (Close Round) refl refl
 
 -- ---- whole texts
 
-abbrev Spelt : List Token → Type 0
+abbrev pub Spelt : List Token → Type 0
 Spelt = All IsSpelt
+
+pub spelt_current : Spelt (Ident (codes "currentcolor") ∷ [])
+spelt_current = All-from_recursion IsSpelt (Ident (codes "currentcolor") ∷ []) (current_spelt, tt)
 
 pub spelt_opaque : (r g b : ℕ) → r < 256 → g < 256 → b < 256 → Spelt (rgb_list r g b)
 spelt_opaque r g b hr hg hb =

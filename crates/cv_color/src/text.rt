@@ -1,6 +1,7 @@
 // The text of a colour.
-ghost use Rattle.std.specs.Prelude.{◌≡◌, ◌∷◌, [], ◌++◌, IfOk, OnOk, IsAscii, codes};
+ghost use Rattle.std.specs.Prelude.{◌≡◌, ◌∷◌, [], ◌++◌, All, IfOk, OnOk, IsAscii, codes};
 ghost use Rattle.cv_spec_text.specs.declared.token.Token.{Token};
+ghost use Rattle.cv_spec_text.specs.Splits.{IsSpelt};
 ghost use Rattle.cv_tokser.specs.Clean.{IsClean};
 ghost use Rattle.cv_color.specs.Text.{separated, channel_text, channels_text, alpha_text, closing, color_text};
 
@@ -54,23 +55,33 @@ fn opened(alloc: Global, name: &str, r: u8, g: u8, b: u8) -> Result<Vec<Token>, 
 }
 
 /// A colour that hides what is behind it.
-#[tactic(auto, using(crate::proofs::CleanText::clean_opaque))]
+#[tactic(auto, using(crate::proofs::CleanText::clean_opaque, crate::proofs::SpeltText::spelt_opaque))]
 fn opaque_tokens(alloc: Global, r: u8, g: u8, b: u8) -> Result<Vec<Token>, AllocError>
     ensures tokens { IfOk result (λ ts. ts.items ≡ Token.Function (codes "rgb") ∷ channels_text r g b ++ closing) }
     ensures clean { IfOk result (λ ts. IsClean ts.items) }
+    ensures spelt { IfOk result (λ ts. All IsSpelt ts.items) }
 {
     let mut tokens = opened(alloc, "rgb", r, g, b)?;
     tokens.push(Token::Close(Bracket::Round))?;
     Ok(tokens)
 }
 
+/// The alpha.
+fn alpha_alone(alloc: Global, a: Frac) -> Result<Vec<Token>, AllocError>
+    ensures tokens { IfOk result (λ ts. ts.items ≡ alpha_text a) }
+    ensures spelt { IfOk result (λ _. All IsSpelt (alpha_text a)) }
+{
+    Ok(calc_tokens(alloc, &Calc::Num(a, Unit::Number))?)
+}
+
 /// The tokens of a colour with its alpha.
 fn alpha_list(alloc: Global, r: u8, g: u8, b: u8, a: Frac) -> Result<Vec<Token>, AllocError>
-    ensures { IfOk result (λ ts. ts.items ≡ Token.Function (codes "rgba") ∷ channels_text r g b ++ separated (alpha_text a) ++ closing) }
+    ensures tokens { IfOk result (λ ts. ts.items ≡ Token.Function (codes "rgba") ∷ channels_text r g b ++ separated (alpha_text a) ++ closing) }
+    ensures alpha { IfOk result (λ _. All IsSpelt (alpha_text a)) }
 {
     let mut tokens = opened(alloc, "rgba", r, g, b)?;
     separate(&mut tokens)?;
-    let mut alpha = calc_tokens(alloc, &Calc::Num(a, Unit::Number))?;
+    let mut alpha = alpha_alone(alloc, a)?;
     tokens.append(&mut alpha)?;
     tokens.push(Token::Close(Bracket::Round))?;
     Ok(tokens)
@@ -80,14 +91,16 @@ fn alpha_list(alloc: Global, r: u8, g: u8, b: u8, a: Frac) -> Result<Vec<Token>,
 fn alpha_tokens(alloc: Global, r: u8, g: u8, b: u8, a: Frac) -> Result<Vec<Token>, AllocError>
     ensures tokens { IfOk result (λ ts. ts.items ≡ Token.Function (codes "rgba") ∷ channels_text r g b ++ separated (alpha_text a) ++ closing) }
     ensures clean { IfOk result (λ ts. IsClean ts.items) }
+    ensures spelt { IfOk result (λ ts. All IsSpelt ts.items) }
 {
     Ok(alpha_list(alloc, r, g, b, a)?)
 }
 
-#[tactic(auto, using(crate::proofs::CleanText::clean_current))]
+#[tactic(auto, using(crate::proofs::CleanText::clean_current, crate::proofs::SpeltText::spelt_current))]
 fn current_tokens(alloc: Global) -> Result<Vec<Token>, AllocError>
     ensures tokens { IfOk result (λ ts. ts.items ≡ Token.Ident (codes "currentcolor") ∷ []) }
     ensures clean { IfOk result (λ ts. IsClean ts.items) }
+    ensures spelt { IfOk result (λ ts. All IsSpelt ts.items) }
 {
     let mut tokens = Vec::new(alloc);
     tokens.push(Token::Ident(ascii_name(alloc, "currentcolor")?))?;
@@ -99,6 +112,7 @@ fn current_tokens(alloc: Global) -> Result<Vec<Token>, AllocError>
 pub fn color_tokens(alloc: Global, c: &Color) -> Result<Vec<Token>, AllocError>
     ensures tokens { IfOk result (λ ts. ts.items ≡ color_text c.now) }
     ensures clean { IfOk result (λ ts. IsClean ts.items) }
+    ensures spelt { IfOk result (λ ts. All IsSpelt ts.items) }
 {
     match c {
         Color::Current => current_tokens(alloc),

@@ -41,13 +41,15 @@ fn mixed(
 }
 
 /// The arguments between commas.
+#[tactic(auto, using(crate::proofs::Arguments::legacy_other, crate::proofs::Arguments::legacy_four))]
 fn legacy(alloc: Global, lists: &[&[Token]], x: &Context) -> Result<Matched<Color>, AllocError>
     ensures { IfOk result (λ o. o ≡ colors.legacy x.now (map (λ list. list.now) lists.now)) }
 {
     match lists {
-        [channels @ .., alpha] if lists.len() == 4 => {
+        [red, green, blue, alpha] => {
             let alpha = by_either(alloc, 1, alpha, x)?;
-            Ok(with_alpha(alike(alloc, channels, x)?, alpha))
+            let channels = [*red, *green, *blue];
+            Ok(with_alpha(alike(alloc, &channels, x)?, alpha))
         }
         _ => Ok(without_alpha(alike(alloc, lists, x)?)),
     }

@@ -5,6 +5,10 @@ mod alpha;
 pub mod channels;
 mod color;
 mod function;
+mod laws;
+#[cfg(test)]
+mod tests;
 
 pub use color::read_color;
+pub use laws::mismatch_is_alike;
 pub use std::alloc::AllocError as OutOfMemory;

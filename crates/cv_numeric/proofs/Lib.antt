@@ -1,3 +1,4 @@
 pub mod Plain
 pub mod Alike
 pub mod Powers
+pub mod Signs

@@ -1,24 +1,23 @@
 -- A number that is 0 is in range, and its sign tells whether another is below 0.
-use Rattle.std.proofs.Common.{◌≡◌, ◌<◌, ◌≤◌, ℕ, zero, suc, ◌+◌, ◌*◌, ◌^◌, ◌/◌, ℤ, pos, negsuc, Bool, true, false, List, [], ◌∷◌, take, refl, sym, ◌∙◌, ap, arith, rules}
-use Rattle.std.specs.Prelude.{◌&&◌, not, ◌==◌, cond, neg_ℤ, unsigned_abs, int_div, int_lt, encode_utf8_all, if◌then◌else◌}
+use Rattle.std.proofs.Common.{◌≡◌, ◌<◌, ◌≤◌, ℕ, zero, suc, ◌+◌, ◌*◌, ◌^◌, ◌/◌, ℤ, pos, Bool, true, false, List, [], ◌∷◌, take, refl, sym, ◌∙◌, ap, arith}
+use Rattle.std.specs.Prelude.{◌&&◌, not, cond, neg_ℤ, unsigned_abs, int_lt, encode_utf8_all}
 use Rattle.std.specs.List.{filter}
 use Rattle.std.specs.Char.{is_ascii_digit, digit_value}
 use Rattle.std.specs.Ordering.{int_eq}
 use Rattle.std.specs.Str.Parse.{digits_value, digits_value_after}
 use Rattle.std.proofs.lemmas.Bool.Decides.{nat_tests, Decides-int_eq}
-use Rattle.std.proofs.Math.Nat.{div-mul_cancel}
+use Rattle.std.proofs.Math.Nat.{div-mul_cancel, zero-div}
 use Rattle.cv_spec_text.specs.Characters.{hyphen, begins_with}
 use Rattle.cv_ratio.specs.Gcd.{gcd, gcd_steps}
 use Rattle.cv_ratio.specs.Cancelled.{gcd_is, unsigned_abs-int_div}
 use Rattle.cv_ratio.specs.Ratio.{Ratio, ratio, signed}
 use Rattle.cv_ratio.proofs.Gcd.{gcd_comm}
 use Rattle.cv_ratio.proofs.LowestTerms.{ratio-top}
-use Rattle.cv_frac.specs.Bounded.{in_bounds, bounded}
-use Rattle.cv_frac.specs.Literal.{is_number, is_short, unsigned_part, mantissa_digits, fraction_digits, exponent_size, is_exponent_negative, zero_digit, without_leading, without_trailing, significant, with_exponent, exact_unsigned, exact, literal_of}
+use Rattle.cv_frac.specs.Bounded.{in_bounds}
+use Rattle.cv_frac.specs.Literal.{is_number, is_short, unsigned_part, mantissa_digits, fraction_digits, exponent_size, is_exponent_negative, without_leading, without_trailing, significant, with_exponent, exact, literal_of}
 use Rattle.cv_spec_text.specs.Numbers.{mantissa_length}
 use Rattle.cv_exact.specs.Zero.{is_zero}
 use Rattle.cv_calcread.specs.Literals.{exact_number, is_in_range, is_read}
-use Rattle.cv_numeric.specs.Calculations.{is_null, is_negative}
 use Rattle.cv_numeric.specs.Signs.{SignsAreTold}
 
 -- ---- digits
@@ -38,11 +37,11 @@ zero_passed c ds is none = rw is none
 zeros : (n : ℕ) (text : List ℕ) → digits_value_after 10 n (filter is_ascii_digit text) ≡ 0 → without_leading (filter is_ascii_digit text) ≡ []
 unfolding without_leading
 zeros n [] e = refl
-zeros n (c ∷ cs) e = chosen (is_ascii_digit c) refl e
+zeros n (c ∷ cs) e = chosen (λ m. zeros m cs) (is_ascii_digit c) refl e
   where
-    chosen : (b : Bool) → is_ascii_digit c ≡ b → digits_value_after 10 n (cond b (c ∷ filter is_ascii_digit cs) (filter is_ascii_digit cs)) ≡ 0 → without_leading (cond b (c ∷ filter is_ascii_digit cs) (filter is_ascii_digit cs)) ≡ []
-    chosen true digit e = zero_passed c (filter is_ascii_digit cs) (zero_is c digit (omega (arith, after_ge (n * 10 + digit_value c) (filter is_ascii_digit cs), e))) (zeros (n * 10 + digit_value c) cs e)
-    chosen false digit e = zeros n cs e
+    chosen : ((m : ℕ) → digits_value_after 10 m (filter is_ascii_digit cs) ≡ 0 → without_leading (filter is_ascii_digit cs) ≡ []) → (b : Bool) → is_ascii_digit c ≡ b → digits_value_after 10 n (cond b (c ∷ filter is_ascii_digit cs) (filter is_ascii_digit cs)) ≡ 0 → without_leading (cond b (c ∷ filter is_ascii_digit cs) (filter is_ascii_digit cs)) ≡ []
+    chosen later true digit e = zero_passed c (filter is_ascii_digit cs) (zero_is c digit (omega (arith, after_ge (n * 10 + digit_value c) (filter is_ascii_digit cs), e))) (later (n * 10 + digit_value c) e)
+    chosen later false digit e = later n e
 
 short_zeros : (text : List ℕ) → digits_value 10 (mantissa_digits (unsigned_part text)) ≡ 0 → is_short text ≡ true
 unfolding significant without_trailing
@@ -50,11 +49,14 @@ short_zeros text e = rw (zeros 0 (take (mantissa_length (unsigned_part text)) (u
 
 -- ---- fractions
 
+nothing_times : (g : ℕ) → 0 * g ≡ 0
+nothing_times g = omega arith
+
 size_zero : (p : ℤ) (q : ℕ) → 0 < q → (ratio p q).top ≡ pos 0 → unsigned_abs p ≡ 0
 size_zero p q h e =
     let g : ℕ = gcd (unsigned_abs p) q in
     let size : unsigned_abs p / g ≡ 0 = sym (unsigned_abs-int_div p g) ∙ ap unsigned_abs (sym (ratio-top p q h) ∙ e) in
-    sym (div-mul_cancel g (gcd_is (unsigned_abs p) q).0) ∙ ap (λ n. n * g) size
+    sym (div-mul_cancel g (gcd_is (unsigned_abs p) q).0) ∙ ap (λ n. n * g) size ∙ nothing_times g
 
 -- a fraction that is 0 has the bottom 1
 zero_bottom : (r : Ratio) → r.top ≡ pos 0 → r.bottom ≡ 1
@@ -69,12 +71,18 @@ sign_of : (m : ℕ) → not (int_eq (neg_ℤ (pos m)) (pos 0)) ≡ int_lt (neg_�
 sign_of zero = refl
 sign_of (suc m) = refl
 
+not_below : (m : ℕ) → false ≡ int_lt (pos m) (pos 0)
+not_below m = grind (arith, nat_tests)
+
+null_sign : (m : ℕ) → m ≡ 0 → not (int_eq (pos m) (pos 0)) ≡ int_lt (pos m) (pos 0)
+null_sign m e = rw e refl
+
 sign_told : (minus : Bool) (s q : ℕ) → (minus && not (is_zero (ratio (signed minus s) q))) ≡ int_lt (ratio (signed minus s) q).top (pos 0)
 unfolding ratio
 sign_told false s zero = refl
-sign_told false s (suc q) = refl
+sign_told false s (suc q) = not_below (s / gcd s (suc q))
 sign_told true s zero = refl
-sign_told true zero (suc q) = refl
+sign_told true zero (suc q) = null_sign (0 / gcd 0 (suc q)) (zero-div (gcd 0 (suc q)))
 sign_told true (suc s) (suc q) = sign_of (suc s / gcd (suc s) (suc q))
 
 -- ---- spellings

@@ -3,3 +3,4 @@ pub mod Quantities
 pub mod Calculations
 pub mod Numeric
 pub mod Alike
+pub mod Signs

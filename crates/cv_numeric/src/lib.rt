@@ -7,7 +7,7 @@ mod numeric;
 pub mod quantity;
 mod reading;
 
-pub use laws::mismatch_is_alike;
+pub use laws::{mismatch_is_alike, signs_are_told};
 pub use matched::Matched;
 pub use numeric::{
     angle, integer, length, length_percentage, length_percentage_in, number, percentage,

@@ -1,6 +1,7 @@
 pub mod Apart
 pub mod Bounds
 pub mod Canonical
+pub mod CleanTexts
 pub mod Divisors
 pub mod Folds
 pub mod InRange

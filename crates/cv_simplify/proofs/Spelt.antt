@@ -1,6 +1,6 @@
 -- A well formed token is one of a text, and so are those of punctuation, names and numbers.
-use Rattle.std.specs.Prelude.{ℕ, zero, suc, Bool, true, false, not, ◌&&◌, ◌||◌, ◌+◌, ◌<◌, ◌==◌, ◌%◌, ◌/◌, nat_lt, if◌then◌else◌, List, [], ◌∷◌, ◌++◌, length, drop, replicate, ℤ, pos, negsuc, int_lt, decimal, codes, Contains, encode_utf8_all}
-use Rattle.std.specs.Fmt.{digits, digits_onto, digit_glyph, signed_decimal}
+use Rattle.std.specs.Prelude.{ℕ, zero, suc, Bool, true, false, ◌&&◌, ◌+◌, ◌<◌, ◌==◌, ◌%◌, ◌/◌, if◌then◌else◌, List, [], ◌∷◌, ◌++◌, length, replicate, decimal, Contains}
+use Rattle.std.specs.Fmt.{digits, digits_onto, digit_glyph}
 use Rattle.std.specs.List.{prefix_len}
 use Rattle.std.specs.Char.{is_ascii_digit}
 use Rattle.std.proofs.Common.{◌≡◌, refl, sym, ◌∙◌, ap, subst, arith, append-nil, length-append}
@@ -8,16 +8,14 @@ use Rattle.std.proofs.Math.Seq.{drop-length, drop-append_seam}
 use Rattle.std.proofs.lemmas.Bool.Decides.{nat_tests}
 use Rattle.std.proofs.lemmas.Str.{chars-encodes}
 use Rattle.cv_spec_text.specs.declared.token.Token.{Token}
-use Rattle.cv_spec_text.specs.declared.token.Token.TheVariants as tokens
 use Rattle.cv_spec_text.specs.Characters.{full_stop, is_sign, begins_by}
-use Rattle.cv_spec_text.specs.Numbers.{digits_length, sign_length, fraction_length, mantissa_length, exponent_length, number_length}
+use Rattle.cv_spec_text.specs.Numbers.{fraction_length, mantissa_length, exponent_length, number_length}
 use Rattle.cv_spec_text.specs.Text.{preprocessed}
 use Rattle.cv_spec_text.specs.Tokens.{tokens_of, tokens as tokens_in}
 use Rattle.cv_spec_text.specs.Printing.{is_white, written, bytes}
 use Rattle.cv_spec_text.specs.Splits.{IsSpelt}
 use Rattle.cv_tokser.specs.Clean.{is_bad, is_url_function, IsClean}
 use Rattle.cv_tokser.proofs.WellFormed.{is_kept, AreAll, AreAll-append, IsSpelling, IsWellFormed, AreWellFormed}
-use Rattle.cv_tokser.proofs.NumbersBack.{IsNumber}
 use Rattle.cv_tokser.proofs.Kept.{written-kept, kept-scalars, kept-preprocessed}
 use Rattle.cv_tokser.proofs.ListsBack.{lists_back}
 
@@ -31,8 +29,8 @@ token_spelt t good other well =
     let all : AreWellFormed (t ∷ []) = (well, tt) in
     let kept = written-kept (t ∷ []) all in
     let read : tokens_in (bytes (t ∷ [])) ≡ t ∷ [] =
-        ap (λ (l : List ℕ). tokens_of (preprocessed l)) (chars-encodes (written (t ∷ [])) (kept-scalars (written (t ∷ [])) kept))
-        ∙ ap tokens_of (kept-preprocessed (written (t ∷ [])) kept) ∙ lists_back (t ∷ []) clean all in
+    ap (λ (l : List ℕ). tokens_of (preprocessed l)) (chars-encodes (written (t ∷ [])) (kept-scalars (written (t ∷ [])) kept))
+    ∙ ap tokens_of (kept-preprocessed (written (t ∷ [])) kept) ∙ lists_back (t ∷ []) clean all in
     let here : Contains (t ∷ []) t = (0, omega arith, refl) in
     (bytes (t ∷ []), (written (t ∷ []), (kept-scalars (written (t ∷ [])) kept, refl)), subst (λ (l : List Token). Contains l t) (sym read) here)
 

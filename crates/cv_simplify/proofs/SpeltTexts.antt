@@ -1,9 +1,8 @@
 -- Each token of the text of a calculation is one of a text.
-use Rattle.std.specs.Prelude.{ℕ, zero, suc, Bool, true, false, ◌&&◌, ◌==◌, ◌-◌, ◌*◌, ◌/◌, ◌%◌, ◌^◌, ◌<◌, nat_lt, if◌then◌else◌, List, [], ◌∷◌, ◌++◌, map, fold, length, replicate, ℤ, pos, negsuc, int_lt, unsigned_abs, decimal, codes, Option, Some, None, All}
+use Rattle.std.specs.Prelude.{ℕ, zero, suc, Bool, true, false, ◌==◌, ◌-◌, ◌*◌, ◌/◌, ◌%◌, ◌^◌, if◌then◌else◌, List, [], ◌∷◌, ◌++◌, map, fold, length, replicate, ℤ, pos, negsuc, int_lt, unsigned_abs, decimal, codes, Option, Some, None, All}
 use Rattle.std.specs.Fmt.{signed_decimal}
 use Rattle.std.specs.List.{AllByRecursion}
 use Rattle.std.proofs.Common.{◌≡◌, refl, sym, ◌∙◌, ap, subst, arith, length-append, append_assoc}
-use Rattle.std.proofs.lemmas.Bool.Decides.{nat_tests}
 use Rattle.std.proofs.lemmas.List.Elements.{All-from_recursion}
 use Rattle.cv_ratio.specs.Ratio.{Ratio, neg}
 use Rattle.cv_spec_text.specs.declared.token.Token.{Token}
@@ -13,7 +12,7 @@ use Rattle.cv_spec_text.specs.Splits.{IsSpelt}
 use Rattle.cv_spec_text.specs.Characters.{full_stop}
 use Rattle.cv_spec_text.specs.Tokens.{single}
 use Rattle.cv_frac.specs.Places.{decimal_places}
-use Rattle.cv_frac.specs.Text.{padded, minus_of, decimal_text, text_with, frac_text}
+use Rattle.cv_frac.specs.Text.{padded, decimal_text, text_with, frac_text}
 use Rattle.cv_calc.specs.declared.unit.Unit as units
 use Rattle.cv_calc.specs.declared.unit.Unit.TheVariants.{Number, Percent}
 use Rattle.cv_calc.specs.declared.calc.Calc.{Calc}
@@ -25,8 +24,8 @@ use Rattle.cv_calc.specs.Tree.{Each, by_cases, fold-Num, fold-Sum, fold-Product,
 use Rattle.cv_tokser.proofs.WellFormed.{is_nameable, AreAll, IsName, IsSpelling, IsDelimiter}
 use Rattle.cv_simplify.specs.declared.place.Place.{Place}
 use Rattle.cv_simplify.specs.declared.place.Place.TheVariants.{Operand, Whole, Added, Multiplied, Argument}
-use Rattle.cv_simplify.specs.Text.{opening, closing, operator, call, numeric, has_decimal_as, has_decimal, decimal_tokens, quotient_tokens, bracketed, number_tokens, number_alone, prefix, has_brackets, placed, number_added, number_placed, negative_placed, inverse_placed, Written, Line, no_line, with_child, with_rank, with_ranked, ranked, line_of, arguments_of, written, written_step, calc_text_as, calc_text}
-use Rattle.cv_simplify.proofs.Spelt.{token_spelt, AreDigits, decimal_digits, decimal_some, zeros_digits, digits_append, of_digits, of_point, IsMantissa, positive, negative}
+use Rattle.cv_simplify.specs.Text.{closing, operator, call, numeric, has_decimal_as, has_decimal, decimal_tokens, quotient_tokens, bracketed, number_tokens, number_alone, prefix, has_brackets, placed, number_added, number_placed, negative_placed, inverse_placed, Written, Line, no_line, with_child, with_rank, with_ranked, ranked, line_of, arguments_of, written, written_step, calc_text_as, calc_text}
+use Rattle.cv_simplify.proofs.Spelt.{token_spelt, decimal_digits, decimal_some, zeros_digits, digits_append, of_digits, of_point, IsMantissa, positive, negative}
 
 -- ---- lists
 
@@ -139,10 +138,11 @@ placed_spelt : (place : Place) (inner : List Token) → AreSpelt inner → AreSp
 placed_spelt place inner h = joined_spelt (prefix place) (bracketed (has_brackets place) inner) (prefix_spelt place) (bracketed_spelt (has_brackets place) inner h)
 
 quotient_spelt : (v : Ratio) (u : units.Unit) → AreSpelt (quotient_tokens v u)
-quotient_spelt v u =
-    (numeric_spelt (signed_decimal v.top) (signed_spelling v.top) u,
-    joined_spelt (operator 0x2f) (tokens.Number (decimal v.bottom) ∷ []) over_spelt
-    (token_spelt (tokens.Number (decimal v.bottom)) refl refl (positive (decimal v.bottom) (decimal_mantissa v.bottom)), tt))
+quotient_spelt v u = (
+  numeric_spelt (signed_decimal v.top) (signed_spelling v.top) u,
+  joined_spelt (operator 0x2f) (tokens.Number (decimal v.bottom) ∷ []) over_spelt
+      (token_spelt (tokens.Number (decimal v.bottom)) refl refl (positive (decimal v.bottom) (decimal_mantissa v.bottom)), tt),
+)
 
 decimal_spelt : (v : Ratio) (u : units.Unit) (n : ℕ) → decimal_places v ≡ Some n → AreSpelt (decimal_tokens v u)
 decimal_spelt v u n e = (numeric_spelt (frac_text v) (subst IsSpelling (sym (ap (text_with v.top v.bottom) e)) (places_spelling v n)) u, tt)

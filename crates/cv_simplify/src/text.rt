@@ -2,6 +2,7 @@
 
 ghost use Rattle.std.specs.Prelude.{◌≡◌, IfOk, map, All};
 ghost use Rattle.cv_spec_text.specs.Splits.{IsSpelt};
+ghost use Rattle.cv_tokser.specs.Clean.{IsClean};
 ghost use Rattle.cv_simplify.specs.Text.{unit_rank as rank_of_unit, written, with_ranked as line_with_ranked, line_of, arguments_of, calc_text};
 
 use crate::place::{
@@ -191,6 +192,7 @@ fn whole(alloc: Global, c: &Calc) -> Result<Vec<Token>, AllocError>
 pub fn calc_tokens(alloc: Global, c: &Calc) -> Result<Vec<Token>, AllocError>
     ensures text { IfOk result (λ ts. ts.items ≡ calc_text c.now) }
     ensures spelt { IfOk result (λ ts. All IsSpelt ts.items) }
+    ensures clean { IfOk result (λ ts. IsClean ts.items) }
 {
     whole(alloc, c)
 }

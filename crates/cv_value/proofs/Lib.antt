@@ -1,0 +1,2 @@
+pub mod NoMatch
+pub mod Alike

@@ -18,7 +18,7 @@ use Rattle.cv_numeric.specs.declared.matched.Matched.TheVariants.{No, Out, Fit}
 use Rattle.cv_numeric.specs.declared.quantity.Range.TheVariants.{All}
 use Rattle.cv_numeric.specs.Matched.{mapped}
 use Rattle.cv_numeric.specs.Numeric as numeric
-use Rattle.cv_value.specs.Colors.{color}
+use Rattle.cv_colorread.specs.Colors.{color}
 use Rattle.cv_syntax.specs.declared.syntax.Kind.{Kind}
 use Rattle.cv_syntax.specs.declared.syntax.Kind.TheVariants as kinds
 use Rattle.cv_value.specs.declared.typed.Item.{Item}

@@ -1,4 +1,4 @@
-pub mod Colors
 pub mod Items
 pub mod Matching
 pub mod Text
+pub mod Alike

@@ -2,15 +2,16 @@
 #![tactic(auto)]
 
 mod many;
-mod colour;
 pub mod error;
 mod single;
+mod laws;
 mod list;
 mod matching;
 mod text;
 pub mod typed;
 
 pub use error::ValueErr;
+pub use laws::mismatch_is_alike;
 pub use matching::match_syntax;
 pub use std::alloc::AllocError as OutOfMemory;
 pub use text::typed_tokens;

@@ -7,7 +7,7 @@ ghost use Rattle.cv_value.specs.Items as items;
 use crate::typed::Item;
 use cv_calc::{Calc, Context, Unit};
 use cv_color::Color;
-use crate::colour::read_color;
+use cv_colorread::read_color;
 use cv_component::trim_front;
 use cv_frac::Frac;
 use cv_numeric::{
