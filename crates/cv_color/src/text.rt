@@ -54,16 +54,22 @@ fn opened(alloc: Global, name: &str, r: u8, g: u8, b: u8) -> Result<Vec<Token>, 
     Ok(tokens)
 }
 
+/// The tokens of a colour that hides what is behind it.
+fn opaque_list(alloc: Global, r: u8, g: u8, b: u8) -> Result<Vec<Token>, AllocError>
+    ensures { IfOk result (λ ts. ts.items ≡ Token.Function (codes "rgb") ∷ channels_text r g b ++ closing) }
+{
+    let mut tokens = opened(alloc, "rgb", r, g, b)?;
+    tokens.push(Token::Close(Bracket::Round))?;
+    Ok(tokens)
+}
+
 /// A colour that hides what is behind it.
-#[tactic(auto, using(crate::proofs::CleanText::clean_opaque, crate::proofs::SpeltText::spelt_opaque))]
 fn opaque_tokens(alloc: Global, r: u8, g: u8, b: u8) -> Result<Vec<Token>, AllocError>
     ensures tokens { IfOk result (λ ts. ts.items ≡ Token.Function (codes "rgb") ∷ channels_text r g b ++ closing) }
     ensures clean { IfOk result (λ ts. IsClean ts.items) }
     ensures spelt { IfOk result (λ ts. All IsSpelt ts.items) }
 {
-    let mut tokens = opened(alloc, "rgb", r, g, b)?;
-    tokens.push(Token::Close(Bracket::Round))?;
-    Ok(tokens)
+    Ok(opaque_list(alloc, r, g, b)?)
 }
 
 /// The alpha.
@@ -96,15 +102,20 @@ fn alpha_tokens(alloc: Global, r: u8, g: u8, b: u8, a: Frac) -> Result<Vec<Token
     Ok(alpha_list(alloc, r, g, b, a)?)
 }
 
-#[tactic(auto, using(crate::proofs::CleanText::clean_current, crate::proofs::SpeltText::spelt_current))]
+fn current_list(alloc: Global) -> Result<Vec<Token>, AllocError>
+    ensures { IfOk result (λ ts. ts.items ≡ Token.Ident (codes "currentcolor") ∷ []) }
+{
+    let mut tokens = Vec::new(alloc);
+    tokens.push(Token::Ident(ascii_name(alloc, "currentcolor")?))?;
+    Ok(tokens)
+}
+
 fn current_tokens(alloc: Global) -> Result<Vec<Token>, AllocError>
     ensures tokens { IfOk result (λ ts. ts.items ≡ Token.Ident (codes "currentcolor") ∷ []) }
     ensures clean { IfOk result (λ ts. IsClean ts.items) }
     ensures spelt { IfOk result (λ ts. All IsSpelt ts.items) }
 {
-    let mut tokens = Vec::new(alloc);
-    tokens.push(Token::Ident(ascii_name(alloc, "currentcolor")?))?;
-    Ok(tokens)
+    Ok(current_list(alloc)?)
 }
 
 /// The text of a colour, as tokens: `rgb(255, 0, 0)`, or `rgba(0, 0, 0, calc(1 / 3))` where the alpha isn't 1 (CSS Color 4, "Serializing

@@ -14,11 +14,7 @@ use cv_spec_text::{Name, Token};
 use std::alloc::{AllocError, Global};
 
 /// Three numbers, or three percentages.
-fn alike(
-    alloc: Global,
-    channels: &[&[Token]],
-    x: &Context,
-) -> Result<Matched<Channels>, AllocError>
+fn alike(alloc: Global, channels: &[&[Token]], x: &Context) -> Result<Matched<Channels>, AllocError>
     ensures { IfOk result (λ o. o ≡ colors.alike x.now (map (λ list. list.now) channels.now)) }
 {
     match three(alloc, Form::Number, channels, x)? {
@@ -29,11 +25,7 @@ fn alike(
 }
 
 /// Three numbers or percentages, between whitespace.
-fn mixed(
-    alloc: Global,
-    channels: &[Token],
-    x: &Context,
-) -> Result<Matched<Channels>, AllocError>
+fn mixed(alloc: Global, channels: &[Token], x: &Context) -> Result<Matched<Channels>, AllocError>
     ensures { IfOk result (λ o. o ≡ colors.mixed x.now channels.now) }
 {
     let lists = spaced_parts(alloc, channels)?;

@@ -61,7 +61,11 @@ fn printed(alloc: Global, text: &str) -> Result<Vec<u8>, Fail> {
 #[test]
 fn texts_are_colors(rt: HostRuntime) -> Result<(), Fail> {
     for (text, color) in &ROWS {
-        assert_eq!(rt; printed(rt.alloc(), text)?.as_slice(), *color, "of {text:?}");
+        assert_eq!(rt;
+            printed(rt.alloc(), text)?.as_slice(),
+            *color,
+            "of {text:?}"
+        );
     }
     Ok(())
 }

@@ -1,0 +1,14 @@
+use Rattle.std.specs.Prelude.{All}
+use Rattle.std.proofs.Common.{◌≡◌, subst, sym, List}
+use Rattle.cv_spec_text.specs.Splits.{IsSpelt}
+use Rattle.cv_spec_text.specs.declared.token.Token.{Token}
+use Rattle.cv_tokser.specs.Clean.{IsClean}
+use Rattle.cv_color.proofs.CleanText.{clean_current}
+use Rattle.cv_color.proofs.SpeltText.{spelt_current}
+use Rattle.cv_color.proofs.text.current_tokens.Goals as goal
+
+pub returns-clause-clean : goal.returns-clause-clean
+returns-clause-clean c = subst (λ (ts : List Token). IsClean ts) (sym c.in_ok-current_list.ensures) clean_current
+
+pub returns-clause-spelt : goal.returns-clause-spelt
+returns-clause-spelt c = subst (λ (ts : List Token). All IsSpelt ts) (sym c.in_ok-current_list.ensures) spelt_current
