@@ -5,3 +5,6 @@ pub mod Numbers
 pub mod Pieces
 pub mod TextEntries
 pub mod ItemEntries
+pub mod Passing
+pub mod Colors
+pub mod Matches

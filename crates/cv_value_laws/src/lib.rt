@@ -4,5 +4,5 @@
 mod contexts;
 mod lists;
 
-pub use contexts::numbers_read_alike;
+pub use contexts::{matches_alike, numbers_read_alike};
 pub use lists::{entries_are_split, texts_are_split};
