@@ -8,3 +8,7 @@ pub mod ItemEntries
 pub mod Passing
 pub mod Colors
 pub mod Matches
+pub mod Fits
+pub mod CanonicalItems
+pub mod FreeValues
+pub mod NoKeywords

@@ -3,6 +3,8 @@
 
 mod contexts;
 mod lists;
+mod values;
 
 pub use contexts::{matches_alike, numbers_read_alike};
 pub use lists::{entries_are_split, texts_are_split};
+pub use values::values_are_free;
