@@ -12,3 +12,4 @@ pub mod Fits
 pub mod CanonicalItems
 pub mod FreeValues
 pub mod NoKeywords
+pub mod Syntaxes

@@ -7,4 +7,4 @@ mod values;
 
 pub use contexts::{matches_alike, numbers_read_alike};
 pub use lists::{entries_are_split, texts_are_split};
-pub use values::values_are_free;
+pub use values::{syntaxes_have_no_keyword, values_are_free};
