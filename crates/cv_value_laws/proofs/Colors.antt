@@ -19,14 +19,17 @@ use Rattle.cv_calc_laws.specs.Fonts.{is_other_unit, holds_no_font_unit, DifferIn
 use Rattle.cv_calc_laws.specs.Units.{token_passes}
 use Rattle.cv_value_laws.specs.Contexts.{ReadsAlike}
 use Rattle.cv_value_laws.proofs.Numbers.{numbers_read_alike}
-use Rattle.cv_value_laws.proofs.Passing.{take_pass, drop_pass, parts_pass, filled_pass, trim_pass, trims_pass}
+use Rattle.cv_value_laws.proofs.Passing.{ByTokens, by_test, take_pass, drop_pass, parts_pass, filled_pass, trim_pass, trims_pass}
 
 module _ (root : Bool) (x y : Context) (differ : DifferInFonts root x y) where
   abbrev Free : List Token → Type 0
   Free ts = holds_no_font_unit root ts ≡ true
 
-  abbrev test : Token → Bool
-  test = token_passes (is_other_unit root)
+  abbrev Other : Token → Type 0
+  Other t = token_passes (is_other_unit root) t ≡ true
+
+  by : ByTokens Other Free
+  by = by_test (token_passes (is_other_unit root))
 
   same_number : (ts : List Token) → Free ts → by_number x ts ≡ by_number y ts
   same_number ts h = numbers_read_alike.number_is All root x y differ ts h
@@ -58,18 +61,18 @@ module _ (root : Bool) (x y : Context) (differ : DifferInFonts root x y) where
   same_legacy (r ∷ g ∷ b ∷ a ∷ c ∷ ps) h = ap without_alpha (same_alike (r ∷ g ∷ b ∷ a ∷ c ∷ ps) h)
 
   same_mixed : (ts : List Token) → Free ts → mixed x ts ≡ mixed y ts
-  same_mixed ts h = same_three (by_either 255 x) (by_either 255 y) (same_either 255) (filled (parts is_white ts)) (filled_pass test (parts is_white ts) (parts_pass test is_white ts h))
+  same_mixed ts h = same_three (by_either 255 x) (by_either 255 y) (same_either 255) (filled (parts is_white ts)) (filled_pass Other Free by (parts is_white ts) (parts_pass Other Free by is_white ts h))
 
   same_modern : (ps : List (List Token)) → Every Free ps → modern x ps ≡ modern y ps
   same_modern [] h = refl
   same_modern (channels ∷ []) h = ap without_alpha (same_mixed channels h.0)
-  same_modern (channels ∷ a ∷ []) h = ap₂ (both with_alpha) (same_mixed channels h.0) (same_either 1 (trim a) (trim_pass test a h.1.0))
+  same_modern (channels ∷ a ∷ []) h = ap₂ (both with_alpha) (same_mixed channels h.0) (same_either 1 (trim a) (trim_pass Other Free by a h.1.0))
   same_modern (channels ∷ a ∷ b ∷ ps) h = refl
 
   same_arguments : (ts : List Token) → Free ts → arguments x ts ≡ arguments y ts
   same_arguments ts h =
-      ap₂ or_else (same_legacy (map trim (parts is_comma ts)) (trims_pass test (parts is_comma ts) (parts_pass test is_comma ts h)))
-      (same_modern (parts is_solidus ts) (parts_pass test is_solidus ts h))
+      ap₂ or_else (same_legacy (map trim (parts is_comma ts)) (trims_pass Other Free by (parts is_comma ts) (parts_pass Other Free by is_comma ts h)))
+      (same_modern (parts is_solidus ts) (parts_pass Other Free by is_solidus ts h))
 
   -- ---- a colour function
 
@@ -78,11 +81,11 @@ module _ (root : Bool) (x y : Context) (differ : DifferInFonts root x y) where
   FreeIf (Some ts) = Free ts
 
   inside_free : (ts : List Token) (end : Option ℕ) → Free ts → FreeIf (inside_by ts end)
-  inside_free ts None h = drop_pass test 1 ts h
+  inside_free ts None h = drop_pass Other Free by 1 ts h
   inside_free ts (Some end) h = go (end + 1 == length ts)
     where
       go : (b : Bool) → FreeIf (if b then Some (take (end - 1) (drop 1 ts)) else None)
-      go true = take_pass test (end - 1) (drop 1 ts) (drop_pass test 1 ts h)
+      go true = take_pass Other Free by (end - 1) (drop 1 ts) (drop_pass Other Free by 1 ts h)
       go false = tt
 
   same_arguments_in : (o : Option (List Token)) → FreeIf o → arguments_in x o ≡ arguments_in y o

@@ -20,6 +20,7 @@ use Rattle.cv_value.specs.declared.typed.Typed.{Typed}
 use Rattle.cv_value.specs.declared.typed.Typed.TheVariants.{One, Spaces, Commas}
 use Rattle.cv_value.specs.Items.{item}
 use Rattle.cv_value.specs.Matching.{each, listed, as_many, component, components, of_syntax, matching}
+use Rattle.cv_value_laws.proofs.Passing.{ByTokens, parts_pass, filled_pass, trims_pass}
 
 -- it holds of the value, where there is a fit
 abbrev pub IfFit : {A : Type 0} → (A → Type 0) → Matched A → Type 0
@@ -69,48 +70,58 @@ OfItems Q (One i) = Q i
 OfItems Q (Spaces is) = Every Q is
 OfItems Q (Commas is) = Every Q is
 
-module _ (Q : Item → Type 0) (x : Context) where
+-- what holds of each token, and of each list
+abbrev pub AnyToken : Token → Type 0
+AnyToken t = Unit {0}
+
+abbrev pub AnyList : List Token → Type 0
+AnyList ts = Unit {0}
+
+module _ (G : Token → Type 0) (P : List Token → Type 0) (by : ByTokens G P) (Q : Item → Type 0) (x : Context) where
   -- it holds of each item of the kind
   abbrev pub OfKind : Kind → Type 0
-  OfKind k = (ts : List Token) → IfFit Q (item k x ts)
+  OfKind k = (ts : List Token) → P ts → IfFit Q (item k x ts)
 
-  if_all : (k : Kind) → OfKind k → (ps : List (List Token)) → IfFit (Every Q) (all_of (map (item k x) ps))
-  if_all k h [] = tt
-  if_all k h (p ∷ ps) = if_more Q (item k x p) (all_of (map (item k x) ps)) (h p) (if_all k h ps)
+  if_all : (k : Kind) → OfKind k → (ps : List (List Token)) → Every P ps → IfFit (Every Q) (all_of (map (item k x) ps))
+  if_all k h [] e = tt
+  if_all k h (p ∷ ps) e = if_more Q (item k x p) (all_of (map (item k x) ps)) (h p e.0) (if_all k h ps e.1)
 
-  if_parts : (k : Kind) → OfKind k → (ps : List (List Token)) → IfFit (Every Q) (each k x ps)
-  if_parts k h [] = tt
-  if_parts k h (p ∷ ps) = if_all k h (p ∷ ps)
+  if_parts : (k : Kind) → OfKind k → (ps : List (List Token)) → Every P ps → IfFit (Every Q) (each k x ps)
+  if_parts k h [] e = tt
+  if_parts k h (p ∷ ps) e = if_all k h (p ∷ ps) e
 
-  if_listed : (k : Kind) → OfKind k → (ts : List Token) (ps : List (List Token)) → IfFit (Every Q) (listed k x ts ps)
-  if_listed k h ts ps = if_either (Every Q) (has_white_end ts) No (each k x ps) tt (if_parts k h ps)
+  if_listed : (k : Kind) → OfKind k → (ts : List Token) (ps : List (List Token)) → Every P ps → IfFit (Every Q) (listed k x ts ps)
+  if_listed k h ts ps e = if_either (Every Q) (has_white_end ts) No (each k x ps) tt (if_parts k h ps e)
 
-  if_many : (m : Many) (k : Kind) → OfKind k → (ts : List Token) → IfFit (OfItems Q) (as_many m k x ts)
-  if_many many.One k h ts = if_mapped Q (OfItems Q) One (λ i q. q) (item k x ts) (h ts)
-  if_many many.Spaces k h ts =
-      if_mapped (Every Q) (OfItems Q) Spaces (λ is q. q) (listed k x ts (filled (parts is_white ts))) (if_listed k h ts (filled (parts is_white ts)))
-  if_many many.Commas k h ts =
-      if_mapped (Every Q) (OfItems Q) Commas (λ is q. q) (listed k x ts (map trim (parts is_comma ts))) (if_listed k h ts (map trim (parts is_comma ts)))
+  if_many : (m : Many) (k : Kind) → OfKind k → (ts : List Token) → P ts → IfFit (OfItems Q) (as_many m k x ts)
+  if_many many.One k h ts e = if_mapped Q (OfItems Q) One (λ i q. q) (item k x ts) (h ts e)
+  if_many many.Spaces k h ts e =
+      if_mapped (Every Q) (OfItems Q) Spaces (λ is q. q) (listed k x ts (filled (parts is_white ts)))
+      (if_listed k h ts (filled (parts is_white ts)) (filled_pass G P by (parts is_white ts) (parts_pass G P by is_white ts e)))
+  if_many many.Commas k h ts e =
+      if_mapped (Every Q) (OfItems Q) Commas (λ is q. q) (listed k x ts (map trim (parts is_comma ts)))
+      (if_listed k h ts (map trim (parts is_comma ts)) (trims_pass G P by (parts is_comma ts) (parts_pass G P by is_comma ts e)))
 
   abbrev pub OfComponents : List Component → Type 0
   OfComponents [] = Unit {0}
   OfComponents (c ∷ cs) = OfKind c.kind × OfComponents cs
 
-  if_components : (cs : List Component) → OfComponents cs → (ts : List Token) → IfFit (OfItems Q) (components x ts cs)
-  if_components [] h ts = tt
-  if_components (c ∷ cs) h ts = if_or_else (OfItems Q) (component x ts c) (components x ts cs) (if_many c.many c.kind h.0 ts) (if_components cs h.1 ts)
+  if_components : (cs : List Component) → OfComponents cs → (ts : List Token) → P ts → IfFit (OfItems Q) (components x ts cs)
+  if_components [] h ts e = tt
+  if_components (c ∷ cs) h ts e =
+      if_or_else (OfItems Q) (component x ts c) (components x ts cs) (if_many c.many c.kind h.0 ts e) (if_components cs h.1 ts e)
 
   abbrev pub OfSyntax : Syntax → Type 0
   OfSyntax Any = Unit {0}
   OfSyntax (Of cs) = OfComponents cs
 
-  if_syntax : (s : Syntax) → OfSyntax s → (ts : List Token) → IfFit (OfItems Q) (of_syntax s x ts)
-  if_syntax Any h ts = tt
-  if_syntax (Of cs) h ts = if_components cs h ts
+  if_syntax : (s : Syntax) → OfSyntax s → (ts : List Token) → P ts → IfFit (OfItems Q) (of_syntax s x ts)
+  if_syntax Any h ts e = tt
+  if_syntax (Of cs) h ts e = if_components cs h ts e
 
-  pub if_matching : (s : Syntax) → OfSyntax s → (ts : List Token) → IfFit (OfItems Q) (matching s x ts)
+  pub if_matching : (s : Syntax) → OfSyntax s → (ts : List Token) → P ts → IfFit (OfItems Q) (matching s x ts)
   unfolding matching
-  if_matching s h ts = if_either (OfItems Q) (nat_lt 128 (depth ts)) No (of_syntax s x ts) tt (if_syntax s h ts)
+  if_matching s h ts e = if_either (OfItems Q) (nat_lt 128 (depth ts)) No (of_syntax s x ts) tt (if_syntax s h ts e)
 
   -- it holds of each kind
   each_component : ((k : Kind) → OfKind k) → (cs : List Component) → OfComponents cs

@@ -24,18 +24,18 @@ use Rattle.cv_calc_laws.specs.Fonts.{is_other_unit, holds_no_font_unit}
 use Rattle.cv_calc_laws.specs.Units.{token_passes}
 use Rattle.cv_calc_laws.proofs.Free.{texts_are_free}
 use Rattle.cv_value_laws.proofs.CanonicalItems.{IsCanonical, item_canonical}
-use Rattle.cv_value_laws.proofs.Fits.{OfItems, of_fit, if_matching, each_syntax}
-use Rattle.cv_value_laws.proofs.Passing.{joined_pass}
+use Rattle.cv_value_laws.proofs.Fits.{OfItems, of_fit, AnyToken, AnyList, if_matching, each_syntax}
+use Rattle.cv_value_laws.proofs.Passing.{by_test, by_any, joined_pass}
 
 module _ (root : Bool) where
   abbrev Free : List Token → Type 0
   Free ts = holds_no_font_unit root ts ≡ true
 
-  abbrev test : Token → Bool
-  test = token_passes (is_other_unit root)
+  abbrev Other : Token → Type 0
+  Other t = token_passes (is_other_unit root) t ≡ true
 
   joined_free : (xs ys : List Token) → Free xs → Free ys → Free (xs ++ ys)
-  joined_free xs ys h k = joined_pass test xs ys h k
+  joined_free xs ys h k = joined_pass Other Free (by_test (token_passes (is_other_unit root))) xs ys h k
 
   alpha_free : (a : Ratio) → Free (alpha_text a)
   alpha_free a = texts_are_free.canonical root (tree.Num a units.Number) (canonical-Num a units.Number)
@@ -82,4 +82,4 @@ module _ (root : Bool) where
 
 pub values_free : (root : Bool) (s : Syntax) (x : Context) (ts : List Token) (v : Typed) → matching s x ts ≡ Fit v → holds_no_font_unit root (typed_text v) ≡ true
 values_free root s x ts v e =
-    typed_free root v (of_fit (OfItems IsCanonical) (matching s x ts) v (if_matching IsCanonical x s (each_syntax IsCanonical x (λ k us. item_canonical k x us) s) ts) e)
+    typed_free root v (of_fit (OfItems IsCanonical) (matching s x ts) v (if_matching AnyToken AnyList by_any IsCanonical x s (each_syntax AnyToken AnyList by_any IsCanonical x (λ k us any. item_canonical k x us) s) ts tt) e)

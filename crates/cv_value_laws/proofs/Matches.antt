@@ -28,14 +28,17 @@ use Rattle.cv_calc_laws.specs.Units.{token_passes}
 use Rattle.cv_value_laws.specs.Contexts.{MatchesAlike}
 use Rattle.cv_value_laws.proofs.Colors.{color_reads_alike}
 use Rattle.cv_value_laws.proofs.Numbers.{numbers_read_alike}
-use Rattle.cv_value_laws.proofs.Passing.{parts_pass, filled_pass, trims_pass}
+use Rattle.cv_value_laws.proofs.Passing.{ByTokens, by_test, parts_pass, filled_pass, trims_pass}
 
 module _ (root : Bool) (x y : Context) (differ : DifferInFonts root x y) where
   abbrev Free : List Token → Type 0
   Free ts = holds_no_font_unit root ts ≡ true
 
-  abbrev test : Token → Bool
-  test = token_passes (is_other_unit root)
+  abbrev Other : Token → Type 0
+  Other t = token_passes (is_other_unit root) t ≡ true
+
+  by : ByTokens Other Free
+  by = by_test (token_passes (is_other_unit root))
 
   same_item : (k : Kind) (ts : List Token) → Free ts → item k x ts ≡ item k y ts
   same_item kinds.Length ts h = ap (mapped item_of.Length) (numbers_read_alike.length_is root x y differ ts h)
@@ -65,8 +68,8 @@ module _ (root : Bool) (x y : Context) (differ : DifferInFonts root x y) where
 
   same_many : (m : Many) (k : Kind) (ts : List Token) → Free ts → as_many m k x ts ≡ as_many m k y ts
   same_many One k ts h = ap (mapped typed.One) (same_item k ts h)
-  same_many Spaces k ts h = ap (mapped typed.Spaces) (same_listed k ts (filled (parts is_white ts)) (filled_pass test (parts is_white ts) (parts_pass test is_white ts h)))
-  same_many Commas k ts h = ap (mapped typed.Commas) (same_listed k ts (map trim (parts is_comma ts)) (trims_pass test (parts is_comma ts) (parts_pass test is_comma ts h)))
+  same_many Spaces k ts h = ap (mapped typed.Spaces) (same_listed k ts (filled (parts is_white ts)) (filled_pass Other Free by (parts is_white ts) (parts_pass Other Free by is_white ts h)))
+  same_many Commas k ts h = ap (mapped typed.Commas) (same_listed k ts (map trim (parts is_comma ts)) (trims_pass Other Free by (parts is_comma ts) (parts_pass Other Free by is_comma ts h)))
 
   same_components : (cs : List Component) (ts : List Token) → Free ts → components x ts cs ≡ components y ts cs
   same_components [] ts h = refl

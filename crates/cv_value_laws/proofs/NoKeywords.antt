@@ -38,9 +38,10 @@ use Rattle.cv_calc_laws.proofs.Free.{texts_are_free}
 use Rattle.cv_calc_laws.proofs.Lists.{and_both, false_true}
 use Rattle.cv_value_laws.specs.Entries.{IsComponentValue, preserved, block}
 use Rattle.cv_value_laws.specs.Values.{is_keyword, is_no_keyword, has_no_keyword, ValuesAreFree}
-use Rattle.cv_value_laws.proofs.Fits.{IfFit, OfItems, OfComponents, OfSyntax, of_fit, if_made, if_either, if_matching}
+use Rattle.cv_value_laws.proofs.Fits.{AnyToken, AnyList, IfFit, OfItems, OfComponents, OfSyntax, of_fit, if_made, if_either, if_matching}
 use Rattle.cv_value_laws.proofs.FreeValues.{values_free}
 use Rattle.cv_value_laws.proofs.ItemEntries.{item_entry}
+use Rattle.cv_value_laws.proofs.Passing.{by_any}
 
 -- an ident is no CSS-wide keyword
 abbrev NoKeyword : Item → Type 0
@@ -112,13 +113,13 @@ item_other kinds.Str h x ts = string_other ts
 item_other kinds.CustomIdent h x ts = ident_other ts
 item_other (kinds.Literal word) h x ts = literal_other word (not_not (is_css_wide_keyword word) h) ts
 
-components_other : (cs : List Component) → list_all (λ (c : Component). is_no_keyword c.kind) cs ≡ true → (x : Context) → OfComponents NoKeyword x cs
+components_other : (cs : List Component) → list_all (λ (c : Component). is_no_keyword c.kind) cs ≡ true → (x : Context) → OfComponents AnyToken AnyList by_any NoKeyword x cs
 components_other [] h x = tt
 components_other (c ∷ cs) h x =
     let (first, rest) = and_both (is_no_keyword c.kind) (list_all (λ (d : Component). is_no_keyword d.kind) cs) h in
-    (item_other c.kind first x, components_other cs rest x)
+    ((λ ts any. item_other c.kind first x ts), components_other cs rest x)
 
-syntax_other : (s : Syntax) → has_no_keyword s ≡ true → (x : Context) → OfSyntax NoKeyword x s
+syntax_other : (s : Syntax) → has_no_keyword s ≡ true → (x : Context) → OfSyntax AnyToken AnyList by_any NoKeyword x s
 syntax_other Any h x = tt
 syntax_other (Of cs) h x = components_other cs h x
 
@@ -174,7 +175,7 @@ typed_no_keyword (Spaces is) h = list_no_keyword tokens.White [] is h
 typed_no_keyword (Commas is) h = list_no_keyword tokens.Comma (tokens.White ∷ []) is h
 
 no_keyword : (s : Syntax) → has_no_keyword s ≡ true → (x : Context) (ts : List Token) (v : Typed) → matching s x ts ≡ Fit v → is_keyword (typed_text v) ≡ false
-no_keyword s h x ts v e = typed_no_keyword v (of_fit (OfItems NoKeyword) (matching s x ts) v (if_matching NoKeyword x s (syntax_other s h x) ts) e)
+no_keyword s h x ts v e = typed_no_keyword v (of_fit (OfItems NoKeyword) (matching s x ts) v (if_matching AnyToken AnyList by_any NoKeyword x s (syntax_other s h x) ts tt) e)
 
 pub values_are_free : ValuesAreFree
 values_are_free = record { no_font_unit = values_free; no_keyword = no_keyword }
