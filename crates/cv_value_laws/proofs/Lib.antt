@@ -13,3 +13,5 @@ pub mod CanonicalItems
 pub mod FreeValues
 pub mod NoKeywords
 pub mod Syntaxes
+pub mod CleanLists
+pub mod WellFormed

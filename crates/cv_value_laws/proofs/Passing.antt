@@ -1,7 +1,7 @@
 -- What holds of a list by its tokens holds of its parts.
 use Rattle.std.specs.Prelude.{◌≡◌, ℕ, zero, suc, Bool, true, false, List, [], ◌∷◌, ◌++◌, map, take, drop, reverse, if◌then◌else◌}
 use Rattle.std.specs.List.{list_all, AllByRecursion as Every}
-use Rattle.std.proofs.Common.{refl, sym, ◌∙◌, subst}
+use Rattle.std.proofs.Common.{refl, sym, subst}
 use Rattle.std.proofs.lemmas.List.{reverse-append}
 use Rattle.cv_spec_text.specs.declared.token.Bracket.{Bracket}
 use Rattle.cv_spec_text.specs.declared.token.Token.{Token}

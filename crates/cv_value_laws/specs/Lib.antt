@@ -2,3 +2,4 @@ pub mod Contexts
 pub mod Entries
 pub mod Lists
 pub mod Values
+pub mod Texts
