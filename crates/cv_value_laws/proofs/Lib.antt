@@ -1,0 +1,17 @@
+pub mod Blocks
+pub mod Ends
+pub mod Joined
+pub mod Numbers
+pub mod Pieces
+pub mod TextEntries
+pub mod ItemEntries
+pub mod Passing
+pub mod Colors
+pub mod Matches
+pub mod Fits
+pub mod CanonicalItems
+pub mod FreeValues
+pub mod NoKeywords
+pub mod Syntaxes
+pub mod CleanLists
+pub mod WellFormed

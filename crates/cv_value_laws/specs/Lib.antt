@@ -1,0 +1,5 @@
+pub mod Contexts
+pub mod Entries
+pub mod Lists
+pub mod Values
+pub mod Texts
