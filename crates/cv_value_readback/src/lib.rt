@@ -1,0 +1,6 @@
+//! The text of a typed value reads back as an equal value.
+#![tactic(auto)]
+
+mod laws;
+
+pub use laws::{items_read_back, numbers_are_read, typed_values_read_back};
