@@ -40,7 +40,7 @@ use Rattle.cv_value_readback.proofs.GivenColors.{AreChannels, IsGiven, color_giv
 channel_read : (y : Context) (n : ℕ) → n < 256 → number All y (Number (decimal n) ∷ []) ≡ Fit (whole_ratio n)
 channel_read y n h =
     ap (mapped value_of) (numeral_read quantity.Number All (with_basis basis.Plain y) (whole_ratio n) units.Number (whole_inside (pos n) (omega (arith, h))) refl tt refl tt
-        (Number (decimal n) ∷ []) (decimal n) refl (whole_means (pos n) (omega (arith, h))))
+    (Number (decimal n) ∷ []) (decimal n) refl (whole_means (pos n) (omega (arith, h))))
     ∙ ap Fit (value_is (whole_ratio n) units.Number)
 
 first_fits : {A : Type 0} (m o : Matched A) (a : A) → m ≡ Fit a → or_else m o ≡ Fit a

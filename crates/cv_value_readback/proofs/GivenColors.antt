@@ -117,8 +117,8 @@ part_small n (Fit v) a h =
 alpha_small : (x : Context) (ts : List Token) (a : Ratio) → alpha x ts ≡ Fit a → IsSmall a
 alpha_small x ts a h =
     either_fits IsSmall (by_number x ts) (by_percentage 1 x ts) a
-        (λ k. (measured_given quantity.Number All (whole refl) x ts a k).small)
-        (λ k. part_small 1 (percentage x ts) a k) h
+    (λ k. (measured_given quantity.Number All (whole refl) x ts a k).small)
+    (λ k. part_small 1 (percentage x ts) a k) h
 
 channels_given : (c : Channels) (a : Ratio) → IsSmall a → IsGiven (with_alpha c a)
 channels_given c a small = record { red = channel_small c.red; green = channel_small c.green; blue = channel_small c.blue; alpha = clamped_part a small }

@@ -186,9 +186,9 @@ module _ (y : Context) where
   number_case : (c : Calc) (v : Ratio) (u : units.Unit) → c ≡ tree.Num v u → inside c ≡ true → holds_canonical c ≡ true → takes_some LengthPercentage (type_of c) ≡ true → Back (mixed_item c)
   number_case c v u e small h t =
       subst (λ (d : Calc). Back (mixed_item d)) (sym e) (exact_back v u
-          (sym (inside-Num v u) ∙ ap inside (sym e) ∙ small)
-          (sym (canonical-Num v u) ∙ ap holds_canonical (sym e) ∙ h)
-          (some_type (type_of (tree.Num v u)) (type_of c) (unit_type u) (type_number v u) (ap type_of e) t))
+      (sym (inside-Num v u) ∙ ap inside (sym e) ∙ small)
+      (sym (canonical-Num v u) ∙ ap holds_canonical (sym e) ∙ h)
+      (some_type (type_of (tree.Num v u)) (type_of c) (unit_type u) (type_number v u) (ap type_of e) t))
 
   -- a calculation that is no number
   equal_read : (s : Calc) (n : ReadsAsEqual s (calc_text s)) → is_number (out-Calc s) ≡ false → length_percentage All y (calc_text s) ≡ Fit (simp_of (as_length y) n.tree)
@@ -238,7 +238,7 @@ module _ (y : Context) where
       let s : Calc = simp_of (as_length x) t in
       let typed : type_of s ≡ Some k = type_kept (as_length x) t linear ∙ e in
       by_layer s (out-Calc s) refl (simple_inside (as_length x) t small) (simp_canonical (as_length x) t) (ap (takes_some LengthPercentage) typed ∙ takes)
-          (calculations_read_back.reads (as_length x) ts t (record { read = read; linear = linear; kind = k; typed = e; taken = takes_is k takes; basis = refl; in_range = small }))
+      (calculations_read_back.reads (as_length x) ts t (record { read = read; linear = linear; kind = k; typed = e; taken = takes_is k takes; basis = refl; in_range = small }))
 
   is_one : (x : Context) (v : Ratio) (u : units.Unit) → (w : Ratio) × (t : units.Unit) × (number_in (as_length x) v u ≡ tree.Num w t)
   is_one x v Percent = (v, Percent, refl)

@@ -132,8 +132,8 @@ components_given : (cs : List Component) (x : Context) (ts : List Token) (v : Ty
 components_given [] x ts v h = absurd cc
 components_given (c ∷ cs) x ts v h =
     either_fits (Gives (c ∷ cs) x ts) (component x ts c) (components x ts cs) v
-        (λ k. record { by = c; one_of = here c cs; gives = k })
-        (λ k. further c cs x ts v (components_given cs x ts v k)) h
+    (λ k. record { by = c; one_of = here c cs; gives = k })
+    (λ k. further c cs x ts v (components_given cs x ts v k)) h
 
 syntax_given : (cs : List Component) (x : Context) (ts : List Token) (v : Typed) → matching (Of cs) x ts ≡ Fit v → components x ts cs ≡ Fit v
 unfolding matching
