@@ -1,38 +1,36 @@
 -- Colours read back.
-use Rattle.std.specs.Prelude.{ℕ, Bool, true, false, ◌<◌, pos, codes, decimal, List, [], ◌∷◌, ◌++◌, map, Some, if◌then◌else◌}
+use Rattle.std.specs.Prelude.{ℕ, Bool, true, false, ◌<◌, pos, codes, decimal, List, [], ◌∷◌, ◌++◌}
 use Rattle.std.specs.Fmt.{signed_decimal}
-use Rattle.std.proofs.Common.{◌≡◌, refl, sym, ◌∙◌, ap, ap₂, subst, arith}
+use Rattle.std.proofs.Common.{◌≡◌, refl, sym, ◌∙◌, ap, ap₂, arith}
 use Rattle.cv_spec_text.specs.declared.token.Bracket.TheVariants.{Round}
 use Rattle.cv_spec_text.specs.declared.token.Token.{Token}
-use Rattle.cv_spec_text.specs.declared.token.Token.TheVariants.{Ident, Function, Number, White, Comma, Close, Delim}
-use Rattle.cv_ratio.specs.Ratio.{Ratio, ratio}
+use Rattle.cv_spec_text.specs.declared.token.Token.TheVariants.{Function, Number, White, Comma, Close, Delim}
+use Rattle.cv_ratio.specs.Ratio.{Ratio}
 use Rattle.cv_frac.specs.Text.{frac_text}
-use Rattle.cv_parts.specs.Parts.{is_white, is_comma, is_solidus, parts, parts_within, filled, trim}
+use Rattle.cv_parts.specs.Parts.{is_solidus, parts}
 use Rattle.cv_calc.specs.declared.unit.Unit.TheVariants as units
 use Rattle.cv_calc.specs.declared.context.Context.{Context}
 use Rattle.cv_calc.specs.declared.context.Basis.TheVariants as basis
 use Rattle.cv_calc.specs.declared.calc.Calc.TheVariants as tree
-use Rattle.cv_calcread.specs.Literals.{exact_number}
 use Rattle.cv_simplify.specs.Text.{has_decimal, number_alone, calc_text}
-use Rattle.cv_calc_readback.proofs.Numerals.{Means, whole_means, whole_inside}
+use Rattle.cv_calc_readback.proofs.Numerals.{whole_means, whole_inside}
 use Rattle.cv_numeric.specs.declared.matched.Matched.{Matched}
-use Rattle.cv_numeric.specs.declared.matched.Matched.TheVariants.{No, Out, Fit}
+use Rattle.cv_numeric.specs.declared.matched.Matched.TheVariants.{Fit}
 use Rattle.cv_numeric.specs.declared.quantity.Quantity.TheVariants as quantity
 use Rattle.cv_numeric.specs.declared.quantity.Range.TheVariants.{All}
 use Rattle.cv_numeric.specs.Matched.{mapped, both, or_else}
 use Rattle.cv_numeric.specs.Numeric.{with_basis, value_of, number}
 use Rattle.cv_color.specs.declared.color.Color.{Color}
 use Rattle.cv_color.specs.declared.color.Color.TheVariants.{Current, Rgb}
-use Rattle.cv_color.specs.Channels.{clamped, channel, from_channels}
-use Rattle.cv_color.specs.Names.{named}
+use Rattle.cv_color.specs.Channels.{clamped, channel}
 use Rattle.cv_color.specs.Text.{color_text, is_opaque}
 use Rattle.cv_colorread.specs.declared.channels.Channels.{Channels}
 use Rattle.cv_colorread.specs.Channels.{by_number, by_percentage, together, three}
-use Rattle.cv_colorread.specs.Colors.{with_alpha, opaque, without_alpha, alpha, alike, legacy, modern, arguments, inside, function, color}
+use Rattle.cv_colorread.specs.Colors.{with_alpha, opaque, without_alpha, alpha, alike, legacy, modern, color}
 use Rattle.cv_value_readback.proofs.Numbers.{numeral_read}
-use Rattle.cv_value_readback.proofs.Measured.{IsIn, value_is, measured_read}
+use Rattle.cv_value_readback.proofs.Measured.{value_is, measured_read}
 use Rattle.cv_value_readback.proofs.Mixed.{number_text}
-use Rattle.cv_value_readback.proofs.Parts.{IsPart, whole_ratio, channel_kept, part_kept, whole_part, equal_is}
+use Rattle.cv_value_readback.proofs.Parts.{whole_ratio, channel_kept, part_kept, equal_is}
 use Rattle.cv_value_readback.proofs.GivenColors.{AreChannels, IsGiven, color_given}
 
 -- ---- channels

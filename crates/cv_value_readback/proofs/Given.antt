@@ -1,9 +1,9 @@
 -- What is known of the calculation that a list is.
-use Rattle.std.specs.Prelude.{ℕ, Bool, true, false, ◌&&◌, not, pos, int_lt, List, [], ◌∷◌, Some, None, Ok, Err, Option, Result, encode_utf8_all, if◌then◌else◌}
-use Rattle.std.proofs.Common.{◌≡◌, refl, sym, ◌∙◌, ap, ap₂, subst, arith}
+use Rattle.std.specs.Prelude.{ℕ, Bool, true, false, ◌&&◌, pos, List, [], ◌∷◌, Some, None, Ok, Err, Option, Result, if◌then◌else◌}
+use Rattle.std.proofs.Common.{◌≡◌, refl, sym, ◌∙◌, ap, arith}
 use Rattle.cv_spec_text.specs.declared.token.Token.{Token}
 use Rattle.cv_spec_text.specs.declared.token.Token.TheVariants as tokens
-use Rattle.cv_ratio.specs.Ratio.{Ratio, zero_ratio}
+use Rattle.cv_ratio.specs.Ratio.{zero_ratio}
 use Rattle.cv_frac.specs.Bounded.{in_bounds}
 use Rattle.cv_calc.specs.declared.unit.Unit as units
 use Rattle.cv_calc.specs.declared.unit.Unit.TheVariants.{Number, Percent}
@@ -12,7 +12,7 @@ use Rattle.cv_calc.specs.declared.calc.Calc.{Calc}
 use Rattle.cv_calc.specs.declared.calc.Calc.TheVariants as tree
 use Rattle.cv_calc.specs.declared.calc.Calc.TheOpen as layer
 use Rattle.cv_calc.specs.declared.calc.Calc.TheOpen.{Calc-F}
-use Rattle.cv_calc.specs.declared.calc.Calc.TheViews.{out-Calc, roll-Calc, roll-out-Calc}
+use Rattle.cv_calc.specs.declared.calc.Calc.TheViews.{out-Calc, roll-out-Calc}
 use Rattle.cv_calc.specs.declared.calc.Calc.TheFolds.{fold-roll-Calc, map-Calc}
 use Rattle.cv_calc.specs.Names.{unit_with_name}
 use Rattle.cv_calc.specs.Types.{unit_type}
@@ -31,7 +31,7 @@ use Rattle.cv_numeric.specs.declared.quantity.Quantity.{Quantity}
 use Rattle.cv_numeric.specs.declared.quantity.Range.{Range}
 use Rattle.cv_numeric.specs.Matched.{mapped, both, or_else}
 use Rattle.cv_numeric.specs.Quantities.{takes}
-use Rattle.cv_numeric.specs.Calculations.{simplified, is_within, literal, plain, plain_of, clamped_as, clamped_calc, takes_calc, taken, read_as, function, alone, calculation}
+use Rattle.cv_numeric.specs.Calculations.{simplified, is_within, literal, plain, plain_of, clamped_calc, takes_calc, taken, read_as, function, alone, calculation}
 use Rattle.cv_numeric.specs.Numeric.{value_as, value_of}
 
 -- ---- matches that fit

@@ -1,33 +1,32 @@
 -- What is known of a colour that a list gives: its channels are bytes, and its alpha lies from 0 to 1.
-use Rattle.std.specs.Prelude.{ℕ, Bool, true, false, ◌&&◌, ◌||◌, ◌*◌, ◌+◌, ◌/◌, ◌%◌, ◌<◌, pos, codes, List, [], ◌∷◌, map, Some, None, Option, option_map, if◌then◌else◌}
+use Rattle.std.specs.Prelude.{ℕ, Bool, true, false, ◌<◌, codes, List, [], ◌∷◌, map, Some, None, Option, option_map, if◌then◌else◌}
 use Rattle.std.specs.List.{list_all}
-use Rattle.std.specs.Char.{is_ascii_hexdigit, digit_value}
-use Rattle.std.proofs.Common.{◌≡◌, refl, sym, ◌∙◌, ap, ap₂, subst, arith}
+use Rattle.std.specs.Char.{is_ascii_hexdigit}
+use Rattle.std.proofs.Common.{◌≡◌, refl, ap, subst, arith}
 use Rattle.cv_spec_text.specs.Keywords.{is_word}
 use Rattle.cv_spec_text.specs.declared.token.Token.{Token}
 use Rattle.cv_spec_text.specs.declared.token.Token.TheVariants.{Ident, Hash, Function}
-use Rattle.cv_ratio.specs.Ratio.{Ratio, ratio}
+use Rattle.cv_ratio.specs.Ratio.{Ratio}
 use Rattle.cv_frac.specs.Bounded.{in_bounds}
-use Rattle.cv_parts.specs.Parts.{is_white, is_comma, is_solidus, parts, filled, trim}
+use Rattle.cv_parts.specs.Parts.{is_comma, is_solidus, parts, trim}
 use Rattle.cv_calc.specs.declared.context.Context.{Context}
 use Rattle.cv_simplify.proofs.InRange.{and_true}
 use Rattle.cv_numeric.specs.declared.matched.Matched.{Matched}
 use Rattle.cv_numeric.specs.declared.matched.Matched.TheVariants.{No, Out, Fit}
 use Rattle.cv_numeric.specs.declared.quantity.Quantity.TheVariants as quantity
 use Rattle.cv_numeric.specs.declared.quantity.Range.TheVariants.{All}
-use Rattle.cv_numeric.specs.Matched.{both, or_else}
-use Rattle.cv_numeric.specs.Numeric.{number, percentage}
+use Rattle.cv_numeric.specs.Matched.{both}
+use Rattle.cv_numeric.specs.Numeric.{percentage}
 use Rattle.cv_color.specs.declared.color.Color.{Color}
 use Rattle.cv_color.specs.declared.color.Color.TheVariants.{Current, Rgb}
-use Rattle.cv_color.specs.Channels.{from_channels}
-use Rattle.cv_color.specs.Hex.{byte, twice, of_digits, hex, alpha as byte_alpha}
+use Rattle.cv_color.specs.Hex.{byte, twice, of_digits, hex}
 use Rattle.cv_color.specs.Names as names
 use Rattle.cv_color.specs.Names.{named, coded, transparent}
 use Rattle.cv_color.proofs.Bytes.{channel_small}
 use Rattle.cv_color.proofs.Digits.{digit_small}
 use Rattle.cv_colorread.specs.declared.channels.Channels.{Channels}
-use Rattle.cv_colorread.specs.Channels.{counted, hundredths, part_of, by_number, by_percentage, by_either}
-use Rattle.cv_colorread.specs.Colors.{with_alpha, opaque, without_alpha, alpha, alike, mixed, legacy, modern, arguments, is_rgb, inside, arguments_in, function, fitting, color}
+use Rattle.cv_colorread.specs.Channels.{hundredths, part_of, by_number, by_percentage}
+use Rattle.cv_colorread.specs.Colors.{with_alpha, opaque, alpha, alike, mixed, legacy, modern, arguments, is_rgb, inside, arguments_in, fitting, color}
 use Rattle.cv_value_readback.proofs.Given.{fit_same, if_fits, if_in_range, both_fit, either_fits}
 use Rattle.cv_value_readback.proofs.Measured.{measured_given, whole}
 use Rattle.cv_value_readback.proofs.Parts.{IsPart, whole_part, clamped_part, byte_part}

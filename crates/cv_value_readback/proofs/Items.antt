@@ -1,9 +1,7 @@
 -- Items of each kind read back.
-use Rattle.std.specs.Prelude.{ℕ, ℤ, List, [], ◌∷◌}
-use Rattle.std.specs.Fmt.{signed_decimal}
-use Rattle.std.proofs.Common.{◌≡◌, refl, sym, ◌∙◌, ap, subst}
+use Rattle.std.specs.Prelude.{List}
+use Rattle.std.proofs.Common.{◌≡◌, refl, ap, subst}
 use Rattle.cv_spec_text.specs.declared.token.Token.{Token}
-use Rattle.cv_ratio.specs.Ratio.{Ratio}
 use Rattle.cv_calc.specs.declared.unit.Unit.TheVariants as units
 use Rattle.cv_calc.specs.declared.context.Context.{Context}
 use Rattle.cv_numeric.specs.declared.matched.Matched.{Matched}
@@ -12,17 +10,16 @@ use Rattle.cv_numeric.specs.declared.quantity.Quantity.TheVariants as quantity
 use Rattle.cv_numeric.specs.declared.quantity.Range.TheVariants.{All, NotNegative}
 use Rattle.cv_numeric.specs.Matched.{mapped}
 use Rattle.cv_numeric.specs.Numeric as numeric
-use Rattle.cv_color.specs.Text.{color_text}
 use Rattle.cv_colorread.specs.Colors.{color}
 use Rattle.cv_syntax.specs.declared.syntax.Kind.{Kind}
 use Rattle.cv_syntax.specs.declared.syntax.Kind.TheVariants as kinds
 use Rattle.cv_value.specs.declared.typed.Item.{Item}
 use Rattle.cv_value.specs.declared.typed.Item.TheVariants as item_of
-use Rattle.cv_value.specs.Items.{item, url, string, custom_ident, literal}
+use Rattle.cv_value.specs.Items.{item}
 use Rattle.cv_value.specs.Text.{item_text}
-use Rattle.cv_value_readback.specs.ReadsBack.{SameItem, itself, ReadsBack, ItemsReadBack}
+use Rattle.cv_value_readback.specs.ReadsBack.{itself, ReadsBack, ItemsReadBack}
 use Rattle.cv_value_readback.proofs.Given.{mapped_fits}
-use Rattle.cv_value_readback.proofs.Measured.{IsIn, whole, resolution, measured_given, measured_read, length_given, length_read}
+use Rattle.cv_value_readback.proofs.Measured.{whole, resolution, measured_given, measured_read, length_given, length_read}
 use Rattle.cv_value_readback.proofs.Whole.{integer_given, integer_read}
 use Rattle.cv_value_readback.proofs.Words.{url_read, string_read, custom_ident_read, literal_read}
 use Rattle.cv_value_readback.proofs.Mixed.{length_percentage_back}

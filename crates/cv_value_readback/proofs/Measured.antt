@@ -1,23 +1,13 @@
 -- Numbers of a quantity read back, lengths and whole numbers among them.
-use Rattle.std.specs.Prelude.{ℕ, Bool, true, false, ◌&&◌, ◌||◌, not, ◌*◌, ◌/◌, ◌<◌, ◌^◌, ℤ, pos, negsuc, ◌+ℤ◌, ◌*ℤ◌, unsigned_abs, int_lt, List, [], ◌∷◌, Some, None, Ok, Option, encode_utf8_all, decimal, if◌then◌else◌}
-use Rattle.std.specs.Fmt.{signed_decimal}
-use Rattle.std.specs.Char.{is_ascii_digit}
-use Rattle.std.specs.Str.{all_ascii_digits}
-use Rattle.std.specs.Int.{int_div_euclid}
-use Rattle.std.proofs.Common.{◌≡◌, refl, sym, ◌∙◌, ap, ap₂, subst, arith}
-use Rattle.std.proofs.lemmas.Int.{ints}
-use Rattle.std.proofs.Math.Nat.{div-lt_iff_lt-mul}
-use Rattle.cv_spec_text.specs.Characters.{hyphen, is_sign}
+use Rattle.std.specs.Prelude.{ℕ, Bool, true, false, not, pos, List, [], ◌∷◌, if◌then◌else◌}
+use Rattle.std.proofs.Common.{◌≡◌, refl, sym, ◌∙◌, ap, subst, arith}
 use Rattle.cv_spec_text.specs.declared.token.Token.{Token}
 use Rattle.cv_spec_text.specs.declared.token.Token.TheVariants as tokens
 use Rattle.cv_ratio.specs.Ratio.{Ratio, ratio, zero_ratio, one_ratio, mul}
 use Rattle.cv_ratio.specs.Order.{at_most}
-use Rattle.cv_ratio.proofs.Whole.{whole_top, whole_bottom}
-use Rattle.cv_frac.specs.Bounded.{in_bounds, bounded}
-use Rattle.cv_frac.specs.Literal.{is_number, is_short, exact, literal_of}
-use Rattle.cv_frac.specs.Rounded.{half_up}
+use Rattle.cv_frac.specs.Bounded.{in_bounds}
 use Rattle.cv_calc.specs.declared.unit.Unit as units
-use Rattle.cv_calc.specs.declared.unit.Unit.TheVariants.{Px, Dppx, X, Dpi, Dpcm, Number as NumberUnit}
+use Rattle.cv_calc.specs.declared.unit.Unit.TheVariants.{Px, Dppx, X, Dpi, Dpcm}
 use Rattle.cv_calc.specs.declared.context.Basis.TheVariants as basis
 use Rattle.cv_calc.specs.declared.context.Context.{Context}
 use Rattle.cv_calc.specs.declared.calc.Calc.{Calc}
@@ -26,32 +16,27 @@ use Rattle.cv_calc.specs.declared.calc.Calc.TheOpen as layer
 use Rattle.cv_calc.specs.declared.calc.Calc.TheViews.{out-Calc}
 use Rattle.cv_calc.specs.Tree.{out-Num}
 use Rattle.cv_calc.specs.Types.{unit_type}
-use Rattle.cv_calcread.specs.Literals.{exact_number, is_in_range, is_read}
+use Rattle.cv_calcread.specs.Literals.{exact_number, is_in_range}
 use Rattle.cv_simplify.specs.Canonical.{is_canonical}
 use Rattle.cv_simplify.specs.Counted.{Counted}
 use Rattle.cv_simplify.specs.Simplified.{number_in, simp as simp_of}
 use Rattle.cv_simplify.specs.Text.{has_decimal, number_alone}
-use Rattle.cv_simplify.proofs.InRange.{inside-roll, and_true}
 use Rattle.cv_calc_readback.specs.ReadsBack.{Keeps}
-use Rattle.cv_calc_readback.proofs.Decimals.{decimal_digits, small_numbers, whole_spelt}
-use Rattle.cv_calc_readback.proofs.Digits.{AreDigits, Spells, digits_cons}
 use Rattle.cv_calc_readback.proofs.Equations.{counted-Num, counted_simple}
-use Rattle.cv_calc_readback.proofs.Numerals.{Means, whole_means}
-use Rattle.cv_numeric.specs.declared.matched.Matched.{Matched}
-use Rattle.cv_numeric.specs.declared.matched.Matched.TheVariants.{No, Out, Fit}
+use Rattle.cv_numeric.specs.declared.matched.Matched.TheVariants.{Fit}
 use Rattle.cv_numeric.specs.declared.quantity.Quantity.{Quantity}
 use Rattle.cv_numeric.specs.declared.quantity.Quantity.TheVariants as quantity
 use Rattle.cv_numeric.specs.declared.quantity.Range.{Range}
 use Rattle.cv_numeric.specs.declared.quantity.Range.TheVariants.{All, NotNegative}
 use Rattle.cv_numeric.specs.Matched.{mapped}
 use Rattle.cv_numeric.specs.Quantities.{takes, clamped}
-use Rattle.cv_numeric.specs.Calculations.{is_null, is_negative, is_within, clamped_as, clamped_calc, calculation}
-use Rattle.cv_numeric.specs.Numeric.{with_basis, value_as, value_of, measured, zero_length, length, is_digits, is_whole, whole_number, integer}
+use Rattle.cv_numeric.specs.Calculations.{is_null, is_negative, is_within, clamped_as, calculation}
+use Rattle.cv_numeric.specs.Numeric.{with_basis, value_as, value_of, measured, zero_length, length}
 use Rattle.cv_numeric.proofs.Signs.{signs}
 use Rattle.cv_value_readback.specs.Numbers.{IsInside, IsNatural}
 use Rattle.cv_value_readback.proofs.Ranges.{clamped_inside, zero_natural, pair_natural, product_natural}
 use Rattle.cv_value_readback.proofs.Numbers.{spells_number, number_read}
-use Rattle.cv_value_readback.proofs.Given.{fit_same, if_fits, if_in_range, mapped_fits, Source, one, call, source, simple_inside, zero_small, value_small}
+use Rattle.cv_value_readback.proofs.Given.{fit_same, if_fits, mapped_fits, Source, one, call, source, simple_inside, zero_small, value_small}
 
 pub value_is : (v : Ratio) (u : units.Unit) → value_of (tree.Num v u) ≡ v
 value_is v u = ap value_as (out-Num v u)

@@ -1,6 +1,6 @@
 -- Calculations of lengths and percentages read back.
-use Rattle.std.specs.Prelude.{ℕ, Bool, true, false, ◌&&◌, ◌||◌, List, [], ◌∷◌, ◌++◌, codes, Some, None, Ok, Option, if◌then◌else◌}
-use Rattle.std.proofs.Common.{◌≡◌, refl, sym, ◌∙◌, ap, ap₂, subst}
+use Rattle.std.specs.Prelude.{ℕ, Bool, true, false, ◌&&◌, ◌||◌, List, [], ◌∷◌, Some, None, Ok, Option}
+use Rattle.std.proofs.Common.{◌≡◌, refl, sym, ◌∙◌, ap, subst}
 use Rattle.cv_spec_text.specs.declared.token.Token.{Token}
 use Rattle.cv_spec_text.specs.declared.token.Token.TheVariants as tokens
 use Rattle.cv_ratio.specs.Ratio.{Ratio}
@@ -9,7 +9,7 @@ use Rattle.cv_calc.specs.declared.unit.Base.{Base}
 use Rattle.cv_calc.specs.declared.unit.Base.TheVariants as base
 use Rattle.cv_calc.specs.declared.unit.NumType.{NumType}
 use Rattle.cv_calc.specs.declared.unit.Unit as units
-use Rattle.cv_calc.specs.declared.unit.Unit.TheVariants.{Px, Percent, Deg, S, Hz, Dppx, Fr, Number as NumberUnit}
+use Rattle.cv_calc.specs.declared.unit.Unit.TheVariants.{Px, Percent}
 use Rattle.cv_calc.specs.declared.context.Basis.TheVariants as basis
 use Rattle.cv_calc.specs.declared.context.Context.{Context}
 use Rattle.cv_calc.specs.declared.calc.Calc.{Calc}
@@ -20,7 +20,7 @@ use Rattle.cv_calc.specs.declared.calc.Calc.TheOpen.{Calc-F}
 use Rattle.cv_calc.specs.declared.calc.Calc.TheViews.{out-Calc, roll-Calc, roll-out-Calc}
 use Rattle.cv_calc.specs.Tree.{out-Num, fold-Num}
 use Rattle.cv_calc.specs.Types.{unit_type, type_of, type_step, same_powers}
-use Rattle.cv_calc.specs.Linear.{is_linear, no_hint, has_type, shape}
+use Rattle.cv_calc.specs.Linear.{is_linear, no_hint, has_type}
 use Rattle.cv_calc.proofs.Shapes.{shape-Num}
 use Rattle.cv_calc_laws.specs.Single.{is_length_percentage, hints_length}
 use Rattle.cv_calcread.specs.Literals.{exact_number}
@@ -28,31 +28,30 @@ use Rattle.cv_calcread.specs.Answer.{answer}
 use Rattle.cv_simplify.specs.Canonical.{is_canonical, holds_canonical}
 use Rattle.cv_simplify.specs.Counted.{inside, is_in_range as is_counted_in_range}
 use Rattle.cv_simplify.specs.Simplified.{number_in, simp as simp_of}
-use Rattle.cv_simplify.specs.Text.{number_alone, has_decimal, calc_text_as, calc_text, call, written, Written}
+use Rattle.cv_simplify.specs.Text.{number_alone, has_decimal, calc_text_as, calc_text, written, Written}
 use Rattle.cv_simplify.specs.declared.place.Place.TheVariants.{Whole}
 use Rattle.cv_simplify.proofs.Canonical.{canonical-Num, simp_canonical}
 use Rattle.cv_simplify.proofs.InRange.{inside-Num, and_true}
 use Rattle.cv_simplify.proofs.Texts.{written-Min, written-Max, written-Clamp}
 use Rattle.cv_simplify.proofs.TypesKept.{type_kept}
-use Rattle.cv_calc_readback.specs.ReadsBack.{ReadsAsEqual, ReadsBack, number, calculation, IsRead}
+use Rattle.cv_calc_readback.specs.ReadsBack.{ReadsAsEqual, ReadsBack, number, calculation}
 use Rattle.cv_calc_readback.proofs.Calculations.{calculations_read_back}
-use Rattle.cv_numeric.specs.declared.matched.Matched.{Matched}
-use Rattle.cv_numeric.specs.declared.matched.Matched.TheVariants.{No, Out, Fit}
+use Rattle.cv_numeric.specs.declared.matched.Matched.TheVariants.{Fit}
 use Rattle.cv_numeric.specs.declared.quantity.Quantity.TheVariants.{LengthPercentage}
 use Rattle.cv_numeric.specs.declared.quantity.Range.TheVariants.{All}
 use Rattle.cv_numeric.specs.Matched.{mapped}
 use Rattle.cv_numeric.specs.Quantities as quantities
 use Rattle.cv_numeric.specs.Quantities.{takes, takes_some}
-use Rattle.cv_numeric.specs.Calculations.{clamped_as, clamped_calc, takes_calc, taken, read_as, function, calculation as calculation_of}
+use Rattle.cv_numeric.specs.Calculations.{clamped_as, clamped_calc, taken, read_as, function, calculation as calculation_of}
 use Rattle.cv_numeric.specs.Numeric.{with_basis, zero_length, length_percentage_in, length_percentage}
 use Rattle.cv_syntax.specs.declared.syntax.Kind.TheVariants as kinds
 use Rattle.cv_value.specs.declared.typed.Item.{Item}
 use Rattle.cv_value.specs.declared.typed.Item.TheVariants as item_of
 use Rattle.cv_value.specs.Items.{numeral_item, mixed_as, mixed_item, item}
 use Rattle.cv_value.specs.Text.{item_text}
-use Rattle.cv_value_readback.specs.ReadsBack.{SameCalc, SameItem, itself, calculation as same_calculation, ReadsBack as ItemBack}
+use Rattle.cv_value_readback.specs.ReadsBack.{itself, calculation as same_calculation, ReadsBack as ItemBack}
 use Rattle.cv_value_readback.proofs.Numbers.{number_read, fits, contrary}
-use Rattle.cv_value_readback.proofs.Given.{mapped_fits, fit_same, Source, one, call as call_source, source, simple_inside}
+use Rattle.cv_value_readback.proofs.Given.{mapped_fits, Source, one, call as call_source, source, simple_inside}
 use Rattle.cv_value_readback.proofs.Measured.{zero_given, simple_number}
 
 -- ---- a calculation that is one number, or isn't

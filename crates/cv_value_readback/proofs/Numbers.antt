@@ -1,6 +1,6 @@
 -- The text of a number is read as that number, by each quantity that takes its unit.
-use Rattle.std.specs.Prelude.{ℕ, Bool, true, false, ◌&&◌, not, pos, int_lt, List, [], ◌∷◌, Some, Ok, Option, Result, encode_utf8_all, if◌then◌else◌}
-use Rattle.std.proofs.Common.{◌≡◌, refl, sym, ◌∙◌, ap, ap₂}
+use Rattle.std.specs.Prelude.{ℕ, Bool, true, false, not, pos, int_lt, List, [], ◌∷◌, encode_utf8_all}
+use Rattle.std.proofs.Common.{◌≡◌, refl, sym, ◌∙◌, ap}
 use Rattle.cv_spec_text.specs.declared.token.Token.{Token}
 use Rattle.cv_ratio.specs.Ratio.{Ratio}
 use Rattle.cv_frac.specs.Bounded.{in_bounds}
@@ -8,34 +8,31 @@ use Rattle.cv_frac.specs.Literal.{is_number, literal_of}
 use Rattle.cv_frac.specs.Text.{frac_text}
 use Rattle.cv_calc.specs.declared.unit.Unit as units
 use Rattle.cv_calc.specs.declared.unit.Unit.TheVariants.{Number, Percent, Px, Deg, S, Hz, Dppx, Fr}
-use Rattle.cv_calc.specs.declared.unit.NumType.{NumType}
 use Rattle.cv_calc.specs.declared.context.Context.{Context}
 use Rattle.cv_calc.specs.declared.calc.Calc.{Calc}
 use Rattle.cv_calc.specs.declared.calc.Calc.TheVariants as tree
 use Rattle.cv_calc.specs.Names.{unit_with_name, first_named}
 use Rattle.cv_calc.specs.Tree.{out-Num}
 use Rattle.cv_calc.specs.Types.{unit_type}
-use Rattle.cv_calcread.specs.Literals.{exact_number, is_in_range, is_read}
-use Rattle.cv_calcread.specs.Answer.{answer}
+use Rattle.cv_calcread.specs.Literals.{is_in_range, is_read}
 use Rattle.cv_simplify.specs.Canonical.{is_canonical}
 use Rattle.cv_simplify.specs.Counted.{Counted, counted, is_in_range as is_counted_in_range}
 use Rattle.cv_simplify.specs.Simplified.{simp as simp_of}
 use Rattle.cv_simplify.specs.Text.{numeric, has_decimal, number_alone}
-use Rattle.cv_calc_readback.specs.ReadsBack.{IsNumeral, Keeps, ReadsAsNumber, NumberReadsBack, numeral, quotient}
+use Rattle.cv_calc_readback.specs.ReadsBack.{Keeps, ReadsAsNumber, NumberReadsBack, numeral, quotient}
 use Rattle.cv_calc_readback.proofs.Equations.{counted_simple}
 use Rattle.cv_calc_readback.proofs.Numbers.{numbers_read_back}
 use Rattle.cv_calc_readback.proofs.Numerals.{Means, decimal_means}
 use Rattle.cv_calc_readback.proofs.Quotients.{number_counted}
-use Rattle.cv_numeric.specs.declared.matched.Matched.{Matched}
-use Rattle.cv_numeric.specs.declared.matched.Matched.TheVariants.{No, Out, Fit}
+use Rattle.cv_numeric.specs.declared.matched.Matched.TheVariants.{Fit}
 use Rattle.cv_numeric.specs.declared.quantity.Quantity.{Quantity}
 use Rattle.cv_numeric.specs.declared.quantity.Range.{Range}
 use Rattle.cv_numeric.specs.declared.quantity.Range.TheVariants.{All, NotNegative}
 use Rattle.cv_numeric.specs.Matched.{mapped}
-use Rattle.cv_numeric.specs.Quantities.{takes, clamped}
-use Rattle.cv_numeric.specs.Calculations.{simplified, is_negative, is_within, literal, plain, clamped_calc, taken, read_as, function, alone, calculation}
+use Rattle.cv_numeric.specs.Quantities.{takes}
+use Rattle.cv_numeric.specs.Calculations.{simplified, is_within, plain, clamped_calc, taken, read_as, function, alone, calculation}
 use Rattle.cv_numeric.proofs.Signs.{signs}
-use Rattle.cv_value_readback.specs.Numbers.{IsInside, IsNatural, IsOf, NumbersAreRead}
+use Rattle.cv_value_readback.specs.Numbers.{IsInside, NumbersAreRead}
 use Rattle.cv_value_readback.proofs.Ranges.{kept}
 
 -- ---- literals

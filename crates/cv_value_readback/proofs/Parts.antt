@@ -1,15 +1,15 @@
 -- Fractions from 0 to a whole number, which are their own nearest.
-use Rattle.std.specs.Prelude.{ℕ, Bool, true, false, cond, ℤ, pos, ◌*◌, ◌*ℤ◌, ◌<◌, ◌≤◌, ◌^◌, unsigned_abs, int_lt, Ok, if◌then◌else◌}
+use Rattle.std.specs.Prelude.{ℕ, Bool, true, false, cond, ℤ, pos, ◌*ℤ◌, ◌<◌, ◌≤◌, unsigned_abs, int_lt}
 use Rattle.std.specs.Ordering.{int_cmp, is_lt, is_eq, ord_min, ord_max, eq_by_cmp}
 use Rattle.std.specs.declared.cmp.Ordering.TheVariants.{Less, Equal, Greater}
-use Rattle.std.proofs.Common.{◌≡◌, refl, sym, ◌∙◌, ap, ap₂, subst, arith}
+use Rattle.std.proofs.Common.{◌≡◌, refl, sym, ◌∙◌, ap, ap₂, arith}
 use Rattle.std.proofs.lemmas.Int.{ints}
 use Rattle.cv_ratio.specs.Ratio.{Ratio, ratio, zero_ratio}
 use Rattle.cv_ratio.specs.Order.{ratio_cmp}
 use Rattle.cv_ratio.proofs.LowestTerms.{same_ratio}
 use Rattle.cv_ratio.proofs.Pairs.{cmp_pairs}
 use Rattle.cv_ratio.proofs.Whole.{whole_top, whole_bottom, whole_cmp}
-use Rattle.cv_frac.specs.Bounded.{in_bounds, bounded, of_numbers}
+use Rattle.cv_frac.specs.Bounded.{in_bounds}
 use Rattle.cv_frac.specs.Rounded.{half_up}
 use Rattle.cv_simplify.proofs.Numbers.{bounded_is}
 use Rattle.cv_color.specs.Channels.{clamped, channel}

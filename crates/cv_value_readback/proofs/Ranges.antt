@@ -1,12 +1,11 @@
 -- Numbers that lie in a range, and what is clamped to one.
-use Rattle.std.specs.Prelude.{ℕ, Bool, true, false, cond, ℤ, pos, negsuc, ◌*◌, ◌*ℤ◌, ◌<◌, unsigned_abs, int_lt, if◌then◌else◌}
+use Rattle.std.specs.Prelude.{ℕ, Bool, true, false, cond, ℤ, pos, negsuc, ◌*◌, ◌*ℤ◌, ◌<◌, int_lt, if◌then◌else◌}
 use Rattle.std.specs.Ordering.{int_cmp, is_le}
 use Rattle.std.specs.declared.cmp.Ordering.TheVariants.{Less, Equal, Greater}
 use Rattle.std.proofs.Common.{◌≡◌, refl, sym, ◌∙◌, ap, ap₂, subst, arith}
 use Rattle.std.proofs.lemmas.Int.{ints}
 use Rattle.cv_ratio.specs.Ratio.{Ratio, ratio, mul, zero_ratio}
 use Rattle.cv_ratio.specs.Order.{at_most}
-use Rattle.cv_ratio.specs.Gcd.{gcd}
 use Rattle.cv_ratio.proofs.Laws.{positive_product}
 use Rattle.cv_ratio.proofs.LowestTerms.{ratio-top, same_ratio}
 use Rattle.cv_ratio.proofs.Whole.{whole_top, whole_bottom}

@@ -8,7 +8,7 @@ use Rattle.cv_component.specs.Nesting.{depth}
 use Rattle.cv_parts.specs.Parts.{is_white, is_comma, parts, filled, trim, has_white_end}
 use Rattle.cv_calc.specs.declared.context.Context.{Context}
 use Rattle.cv_numeric.specs.declared.matched.Matched.{Matched}
-use Rattle.cv_numeric.specs.declared.matched.Matched.TheVariants.{No, Out, Fit}
+use Rattle.cv_numeric.specs.declared.matched.Matched.TheVariants.{No, Fit}
 use Rattle.cv_numeric.specs.Matched.{mapped, both, all_of, or_else}
 use Rattle.cv_syntax.specs.declared.syntax.Kind.{Kind}
 use Rattle.cv_syntax.specs.declared.syntax.Many.{Many}

@@ -1,34 +1,30 @@
 -- Whole numbers read back.
-use Rattle.std.specs.Prelude.{ℕ, suc, Bool, true, false, ◌||◌, ◌*◌, ◌+◌, ◌-◌, ◌/◌, ◌<◌, ◌≤◌, ◌^◌, ℤ, pos, negsuc, ◌+ℤ◌, ◌*ℤ◌, unsigned_abs, int_lt, List, [], ◌∷◌, Result, Ok, Err, encode_utf8_all, decimal, if◌then◌else◌}
+use Rattle.std.specs.Prelude.{ℕ, suc, Bool, true, false, ◌*◌, ◌+◌, ◌-◌, ◌/◌, ◌<◌, ◌≤◌, ◌^◌, ℤ, pos, negsuc, ◌+ℤ◌, ◌*ℤ◌, unsigned_abs, int_lt, List, [], ◌∷◌, Ok, Err, encode_utf8_all, decimal, if◌then◌else◌}
 use Rattle.std.specs.Fmt.{signed_decimal}
-use Rattle.std.specs.Char.{is_ascii_digit}
 use Rattle.std.specs.Int.{int_div_euclid}
-use Rattle.std.proofs.Common.{◌≡◌, refl, sym, ◌∙◌, ap, ap₂, subst, arith}
+use Rattle.std.proofs.Common.{◌≡◌, refl, ◌∙◌, ap, ap₂, subst, arith}
 use Rattle.std.proofs.lemmas.Int.{ints}
 use Rattle.std.proofs.Math.Nat.{div-lt_iff_lt-mul}
-use Rattle.cv_spec_text.specs.Characters.{is_sign}
 use Rattle.cv_spec_text.specs.declared.token.Token.{Token}
 use Rattle.cv_spec_text.specs.declared.token.Token.TheVariants as tokens
 use Rattle.cv_ratio.specs.Ratio.{Ratio, ratio}
 use Rattle.cv_ratio.proofs.Whole.{whole_top, whole_bottom}
-use Rattle.cv_frac.specs.Bounded.{in_bounds, bounded}
-use Rattle.cv_frac.specs.declared.error.FracErr.{FracErr}
+use Rattle.cv_frac.specs.Bounded.{in_bounds}
 use Rattle.cv_frac.specs.declared.error.FracErr.TheVariants as error
-use Rattle.cv_frac.specs.Literal.{is_number, is_short, exact, literal_of}
+use Rattle.cv_frac.specs.Literal.{is_number, is_short, exact}
 use Rattle.cv_frac.specs.Rounded.{half_up}
 use Rattle.cv_calc.specs.declared.context.Context.{Context}
 use Rattle.cv_calcread.specs.Literals.{exact_number, is_in_range, is_read}
 use Rattle.cv_calc_readback.proofs.Decimals.{decimal_digits, small_numbers, whole_spelt}
-use Rattle.cv_calc_readback.proofs.Digits.{AreDigits, Spells, digits_cons}
+use Rattle.cv_calc_readback.proofs.Digits.{AreDigits, digits_cons}
 use Rattle.cv_calc_readback.proofs.Numerals.{Means, whole_means}
-use Rattle.cv_numeric.specs.declared.matched.Matched.{Matched}
-use Rattle.cv_numeric.specs.declared.matched.Matched.TheVariants.{No, Out, Fit}
+use Rattle.cv_numeric.specs.declared.matched.Matched.TheVariants.{Out, Fit}
 use Rattle.cv_numeric.specs.declared.quantity.Quantity.TheVariants as quantity
 use Rattle.cv_numeric.specs.declared.quantity.Range.TheVariants.{All}
 use Rattle.cv_numeric.specs.Matched.{mapped}
 use Rattle.cv_numeric.specs.Numeric.{measured, is_digits, is_whole, whole_number, integer}
 use Rattle.cv_value_readback.proofs.Given.{fit_same, if_fits, if_in_range, mapped_fits}
-use Rattle.cv_value_readback.proofs.Measured.{IsIn, whole, measured_given}
+use Rattle.cv_value_readback.proofs.Measured.{whole, measured_given}
 
 -- the number has at most 63 bits
 abbrev pub IsSmall : ℤ → Type 0

@@ -1,6 +1,6 @@
 -- The text of a typed value reads back as an equal value (CSSOM, "Serializing CSS Values", whose texts have to parse to equal values;
 -- that calculations are equal by what they mean is this project's own).
-use Rattle.std.specs.Prelude.{◌≡◌, List, [], ◌∷◌}
+use Rattle.std.specs.Prelude.{◌≡◌, List}
 use Rattle.cv_spec_text.specs.declared.token.Token.{Token}
 use Rattle.cv_calc.specs.declared.context.Context.{Context}
 use Rattle.cv_calc.specs.declared.calc.Calc.{Calc}
