@@ -43,14 +43,17 @@ static BRACKETS: [(&str, &str); 4] = [("(", ")"), ("[", "]"), ("{", "}"), ("f(",
 
 static STYLE: &str = r#"{"elements":[{"parent":null,"style":"--a: "#;
 
+// Brackets that the end of the value closes count as those that are closed.
 #[test]
 fn declarations_are_nested_too_deep(rt: HostRuntime) -> Result<(), Fail> {
     let alloc = rt.alloc();
+    let note = "# element 0 declaration 0: too deep\n";
     for (open, close) in &BRACKETS {
-        let document = nested(alloc, STYLE, (open, close), 129, "\"}]}")?;
-        let note = "# element 0 declaration 0: too deep\n";
-        let same = reports(alloc, &COMPUTE, &document, note)?;
-        assert!(rt; same, "of {open}");
+        for close in [close, ""] {
+            let document = nested(alloc, STYLE, (open, close), 129, "\"}]}")?;
+            let same = reports(alloc, &COMPUTE, &document, note)?;
+            assert!(rt; same, "of {open} and {close}");
+        }
     }
     Ok(())
 }

@@ -158,3 +158,13 @@ fn too_many_names(rt: HostRuntime) -> Result<(), Fail> {
     }
     Ok(())
 }
+
+// What isn't built is told before the names are counted.
+#[test]
+fn too_many_names_with_what_is_not_built(rt: HostRuntime) -> Result<(), Fail> {
+    let alloc = rt.alloc();
+    let document = of_names(alloc, 2049, r#","show":["width"]"#)?;
+    let same = refuses(alloc, &COMPUTE, document.as_bytes(), 9, "not built")?;
+    assert_eq!(rt; same, true);
+    Ok(())
+}

@@ -12,6 +12,8 @@ mod limits;
 #[cfg(test)]
 mod long;
 #[cfg(test)]
+mod names;
+#[cfg(test)]
 mod pairs;
 #[cfg(test)]
 mod refusals;

@@ -3,7 +3,7 @@ use crate::running::{COMPUTE, refuses, reports};
 use std::alloc::{AllocError, Global};
 use std::test::Fail;
 
-static USAGE: [&[&str]; 12] = [
+static USAGE: [&[&str]; 13] = [
     &[],
     &["compute", "--limit", "0"],
     &["compute", "--limit", "32769"],
@@ -15,6 +15,7 @@ static USAGE: [&[&str]; 12] = [
     &["compute", "--help"],
     &["draw"],
     &["gen"],
+    &["reify"],
     &["session"],
 ];
 
@@ -46,10 +47,17 @@ fn words_are_taken(rt: HostRuntime) -> Result<(), Fail> {
 }
 
 // Each document, and what is malformed about it.
-static MALFORMED: [(&str, &str); 46] = [
+static MALFORMED: [(&str, &str); 54] = [
     ("", "not JSON"),
+    (r#"{"elements":["#, "not JSON"),
     ("{'elements':[]}", "not JSON"),
     (r#"{"elements":[{"parent":null}]}]"#, "not JSON"),
+    ("\u{feff}{\"elements\":[{\"parent\":null}]}", "not JSON"),
+    (
+        r#"{"elements":[{"parent":null,"style":"\ud800"}]}"#,
+        "not JSON",
+    ),
+    (r#"{"more":1e999,"elements":[{"parent":null}]}"#, "not JSON"),
     ("[]", "field "),
     ("7", "field "),
     ("null", "field "),
@@ -66,6 +74,10 @@ static MALFORMED: [(&str, &str); 46] = [
     (r#"{"viewport":{"width":1.0,"height":1}}"#, "viewport"),
     (r#"{"viewport":{"width":1,"height":1e3}}"#, "viewport"),
     (r#"{"viewport":{"width":"1","height":1}}"#, "viewport"),
+    (
+        r#"{"viewport":{"width":18446744073709551616,"height":1}}"#,
+        "viewport",
+    ),
     (r#"{"viewport":[1,1],"sheet":7}"#, "viewport"),
     (r#"{"sheet":7}"#, "field sheet"),
     (r#"{"sheet":null,"elements":[]}"#, "field sheet"),
@@ -89,6 +101,10 @@ static MALFORMED: [(&str, &str); 46] = [
         "parent 1",
     ),
     (
+        r#"{"elements":[{"parent":null},{"parent":18446744073709551616}]}"#,
+        "parent 1",
+    ),
+    (
         r#"{"elements":[{"parent":null},{"parent":"0"}]}"#,
         "parent 1",
     ),
@@ -106,6 +122,10 @@ static MALFORMED: [(&str, &str); 46] = [
     ),
     (r#"{"elements":[{"parent":null}],"show":7}"#, "field show"),
     (
+        r#"{"elements":[{"parent":null}],"show":null}"#,
+        "field show",
+    ),
+    (
         r#"{"elements":[{"parent":null}],"show":["--a",7]}"#,
         "field show/1",
     ),
@@ -120,6 +140,10 @@ static MALFORMED: [(&str, &str); 46] = [
     (
         r#"{"elements":[{"parent":null}],"show":["WIDTH","rem"]}"#,
         "field show/1",
+    ),
+    (
+        r#"{"elements":[{"parent":null}],"commands":null}"#,
+        "field commands",
     ),
     (
         r#"{"elements":[{"parent":null}],"commands":{}}"#,

@@ -2,10 +2,30 @@
 use crate::running::{COMPUTE, reports};
 use std::test::Fail;
 
-static REPORTS: [(&str, &str); 19] = [
+static REPORTS: [(&str, &str); 24] = [
     (
         r#"{"elements":[{"parent":null,"style":"--a:  1px "}]}"#,
         "0 --a = 1px\n",
+    ),
+    (
+        r#"{"elements":[{"parent":null,"style":"--a: a.5; --b:; --a: 1e3px"}]}"#,
+        "0 --a = 1e3px\n0 --b =\n",
+    ),
+    (
+        r#"{"elements":[{"parent":null,"style":"--a: a.5"}]}"#,
+        "0 --a = a/**/.5\n",
+    ),
+    (
+        r#"{"elements":[{"parent":null,"style":"--a: red("}]}"#,
+        "0 --a = red()\n",
+    ),
+    (
+        r#"{"elements":[{"parent":null,"style":"--a: {;} [!] (;)"}]}"#,
+        "0 --a = {;} [!] (;)\n",
+    ),
+    (
+        r#"{"sheet":"a","elements":[{"parent":null}]}"#,
+        "# sheet rule 0: skipped\n",
     ),
     (
         r#"{"elements":[{"parent":null,"style":"--a:; --b: var(--a, x)"}]}"#,
