@@ -1,6 +1,8 @@
 pub mod Entries
 pub mod Faulted
+pub mod Fitting
 pub mod Given
+pub mod Kept
 pub mod Lent
 pub mod Matches
 pub mod Said

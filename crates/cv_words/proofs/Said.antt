@@ -1,5 +1,5 @@
--- What the words say is single, and they are refused exactly where the command doesn't take them.
-use Rattle.std.proofs.Common.{◌≡◌, ◌≢◌, ◌↔◌, ℕ, true, false, true≢false, List, [], ◌∷◌, Some, refl, sym, ◌∙◌, ap, codes}
+-- Words are refused or read, never both, and what is read of them is single.
+use Rattle.std.proofs.Common.{◌≡◌, ◌≢◌, ◌↔◌, ◌⊎◌, inl, inr, ℕ, Bool, true, false, true≢false, List, [], ◌∷◌, Option, Some, None, refl, sym, ◌∙◌, ap, subst, codes}
 use Rattle.clap.specs.Words.{Row, Text, fault_of, first_of, matches_of, takes}
 use Rattle.clap.specs.Kinds.{Kinds}
 use Rattle.cv_words.specs.Command.{Choices, HasJobs, command_of}
@@ -7,8 +7,9 @@ use Rattle.cv_words.specs.Words.{Gives, GivesJob, GivesNumber, HasWords, IsRefus
 use Rattle.cv_words.specs.declared.words.Job.{Job}
 use Rattle.cv_words.specs.declared.words.Words.{Words}
 use Rattle.cv_words.proofs.Faulted.{fault_same}
+use Rattle.cv_words.proofs.Fitting.{taken_has_words}
 use Rattle.cv_words.proofs.Lent.{Address, all_are_lent, lent}
-use Rattle.cv_words.proofs.Taken.{is_none, taken_where}
+use Rattle.cv_words.proofs.Taken.{is_faultless, taken_where}
 use Rattle.cv_words.proofs.Walked.{matches_same}
 
 -- what is the same for any two addresses is the same for any two lists
@@ -23,8 +24,8 @@ module _ (words : List Text) where
   fault_alike : (names others : Choices) → HasJobs names → HasJobs others → fault_of (command_of names) words ≡ fault_of (command_of others) words
   fault_alike = alike (λ names. fault_of (command_of names) words) (λ one two. fault_same one two words)
 
-  taken_by : (names : Choices) → HasJobs names → is_none (fault_of (command_of names) words) ≡ takes (command_of names) words
-  taken_by names jobs = all_are_lent (λ n. is_none (fault_of (command_of n) words) ≡ takes (command_of n) words) (λ at. taken_where at words) names jobs
+  taken_by : (names : Choices) → HasJobs names → is_faultless (fault_of (command_of names) words) ≡ takes (command_of names) words
+  taken_by names jobs = all_are_lent (λ n. is_faultless (fault_of (command_of n) words) ≡ takes (command_of n) words) (λ at. taken_where at words) names jobs
 
   -- ---- what the words say
 
@@ -55,24 +56,52 @@ module _ (words : List Text) where
 
   -- ---- whether they are refused
 
-  has_fault : (kinds : Kinds) → kinds ≢ [] → is_none kinds ≡ false
+  has_fault : (kinds : Kinds) → kinds ≢ [] → is_faultless kinds ≡ false
   has_fault [] some = absurd (some refl)
   has_fault (k ∷ kinds) some = refl
 
-  is_fault : (kinds : Kinds) → is_none kinds ≡ false → kinds ≢ []
+  is_fault : (kinds : Kinds) → is_faultless kinds ≡ false → kinds ≢ []
   is_fault [] none = absurd (true≢false none)
   is_fault (k ∷ kinds) none = λ same. cc
 
-  pub refused_where : (names : Choices) → HasJobs names → IsRefused words ↔ (takes (command_of names) words ≡ false)
-  refused_where names jobs = (
-    λ refused. sym (taken_by names jobs) ∙ ap is_none (fault_alike names refused.names jobs refused.jobs) ∙ has_fault (fault_of (command_of refused.names) words) refused.fault,
-    λ not_taken. record {
-      names = names;
-      jobs = jobs;
-      not_taken = not_taken;
-      fault = is_fault (fault_of (command_of names) words) (taken_by names jobs ∙ not_taken);
-    },
+  no_fault : (kinds : Kinds) → is_faultless kinds ≡ true → kinds ≡ []
+  no_fault [] none = refl
+  no_fault (k ∷ kinds) none = absurd (true≢false (sym none))
+
+  -- one list of the names finds what another finds
+  found_by : (names others : Choices) → HasJobs names → HasJobs others → (answer : Bool) → is_faultless (fault_of (command_of others) words) ≡ answer → takes (command_of names) words ≡ answer
+  found_by names others jobs other_jobs answer is = sym (taken_by names jobs) ∙ ap is_faultless (fault_alike names others jobs other_jobs) ∙ is
+
+  refused_by : (names : Choices) → HasJobs names → takes (command_of names) words ≡ false → IsRefused words
+  refused_by names jobs not_taken = record {
+    names = names;
+    jobs = jobs;
+    not_taken = not_taken;
+    fault = is_fault (fault_of (command_of names) words) (taken_by names jobs ∙ not_taken);
+  }
+
+  pub refused_where_not_taken : (names : Choices) → HasJobs names → IsRefused words ↔ (takes (command_of names) words ≡ false)
+  refused_where_not_taken names jobs = (
+    λ refused. found_by names refused.names jobs refused.jobs false (has_fault (fault_of (command_of refused.names) words) refused.fault),
+    refused_by names jobs,
   )
 
-  pub words_taken : (read : Words) → HasWords words read → (names : Choices) → HasJobs names → takes (command_of names) words ≡ true
-  words_taken read has names jobs = sym (taken_by names jobs) ∙ ap is_none (fault_alike names has.names jobs has.jobs ∙ has.no_fault)
+  pub refused_where_at_fault : (names : Choices) → HasJobs names → IsRefused words ↔ (fault_of (command_of names) words ≢ [])
+  refused_where_at_fault names jobs = (
+    λ refused. is_fault (fault_of (command_of names) words) (taken_by names jobs ∙ (refused_where_not_taken names jobs).0 refused),
+    λ fault. refused_by names jobs (sym (taken_by names jobs) ∙ has_fault (fault_of (command_of names) words) fault),
+  )
+
+  pub never_both : (read : Words) → HasWords words read → ¬ (IsRefused words)
+  never_both read has = λ refused.
+      let taken = found_by refused.names has.names refused.jobs has.jobs true (ap is_faultless has.no_fault) in
+      true≢false (sym taken ∙ refused.not_taken)
+
+  pub refused_or_read : IsRefused words ⊎ ((read : Words) × HasWords words read)
+  refused_or_read = go (takes (command_of names) words) refl
+    where
+      names : Choices
+      names = lent ((0, 0), (0, 0))
+      go : (taken : Bool) → takes (command_of names) words ≡ taken → IsRefused words ⊎ ((read : Words) × HasWords words read)
+      go true taken = inr (taken_has_words ((0, 0), (0, 0)) words taken)
+      go false not_taken = inl (refused_by names refl not_taken)

@@ -1,9 +1,11 @@
-use Rattle.cv_words.proofs.Said.{refused_where, words_single, words_taken}
+use Rattle.cv_words.proofs.Said.{never_both, refused_or_read, refused_where_at_fault, refused_where_not_taken, words_single}
 use Rattle.cv_words.proofs.laws.words_say_one_thing.Goals as goal
 
 pub returns : goal.returns
 returns c = record {
   single = λ words one other first second. words_single words one other first second;
-  refused = λ words names jobs. refused_where words names jobs;
-  taken = λ words read names jobs has. words_taken words read has names jobs;
+  refused_or_read = refused_or_read;
+  never_both = never_both;
+  refused_where_not_taken = refused_where_not_taken;
+  refused_where_at_fault = refused_where_at_fault;
 }
