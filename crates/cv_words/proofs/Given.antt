@@ -229,7 +229,7 @@ option_given c m p k a r id most plain arg takes is_id some =
     }
 
 -- a name among those of the jobs is a job's
-named_job : (names : Choices) (t : Text) → HasJobs names → Accepts false (Names names) t → job_named t ≡ Some Compute
+pub named_job : (names : Choices) (t : Text) → HasJobs names → Accepts false (Names names) t → job_named t ≡ Some Compute
 named_job names t jobs accepted =
     let test = list_any-map (λ (n : Text). bytes_eq n t) (λ (n : Bor Text). n.now) names.now in
     let one : bytes_eq (codes "compute") t || false ≡ true =

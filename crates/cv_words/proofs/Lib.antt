@@ -1,3 +1,10 @@
 pub mod Entries
+pub mod Faulted
+pub mod Fitting
 pub mod Given
+pub mod Kept
+pub mod Lent
 pub mod Matches
+pub mod Said
+pub mod Taken
+pub mod Walked

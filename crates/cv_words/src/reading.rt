@@ -1,5 +1,5 @@
 // The words of the command line, read with clap.
-ghost use Rattle.std.specs.Prelude.{◌≡◌, ◌≤◌, ◌^◌, ◌<◌, ℕ, List, Some, IfOk, IfSome, IsErrOf, option_map, string_bytes};
+ghost use Rattle.std.specs.Prelude.{IfOk, IsErrOf};
 ghost use Rattle.clap.specs.Words.{found_of};
 ghost use Rattle.cv_words.specs.Words.{HasJob, HasNumber, HasWords, IsGiven, IsReadFrom, IsRefused, MayGiveJob, MayGiveNumber, texts_of};
 
@@ -11,8 +11,8 @@ use std::alloc::Global;
 
 static JOBS: [&str; 1] = ["compute"];
 
-/// The job and the numbers of the options, by clap's definition of what the words match. `Refused` comes exactly where clap's
-/// definition of a line that the command takes doesn't hold.
+/// The job and the numbers of the options, by clap's definition of what the words match. `Refused` comes exactly where clap
+/// finds a fault in the words, and only where its definition of a line that the command takes doesn't hold.
 pub fn read_words(alloc: Global, words: &[String]) -> Result<Words, WordsErr>
     ensures read { IfOk result (λ read. HasWords (texts_of words.now) read) }
     ensures refused { IsErrOf result WordsErr.Refused → IsRefused (texts_of words.now) }
