@@ -1,5 +1,5 @@
 -- Words are refused or read, never both, and what is read of them is single.
-use Rattle.std.proofs.Common.{◌≡◌, ◌≢◌, ◌↔◌, ◌⊎◌, inl, inr, ℕ, Bool, true, false, true≢false, List, [], ◌∷◌, Option, Some, None, refl, sym, ◌∙◌, ap, subst, codes}
+use Rattle.std.proofs.Common.{◌≡◌, ◌≢◌, ◌↔◌, ◌⊎◌, inl, inr, ℕ, Bool, true, false, true≢false, List, [], ◌∷◌, Some, refl, sym, ◌∙◌, ap, codes}
 use Rattle.clap.specs.Words.{Row, Text, fault_of, first_of, matches_of, takes}
 use Rattle.clap.specs.Kinds.{Kinds}
 use Rattle.cv_words.specs.Command.{Choices, HasJobs, command_of}
@@ -102,6 +102,7 @@ module _ (words : List Text) where
     where
       names : Choices
       names = lent ((0, 0), (0, 0))
+
       go : (taken : Bool) → takes (command_of names) words ≡ taken → IsRefused words ⊎ ((read : Words) × HasWords words read)
       go true taken = inr (taken_has_words ((0, 0), (0, 0)) words taken)
       go false not_taken = inl (refused_by names refl not_taken)

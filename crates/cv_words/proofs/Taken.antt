@@ -184,6 +184,7 @@ module _ (s : Shape) (names : Names) where
           else UnknownArgument ∷ InvalidSubcommand ∷ []) ≡ false
       stray true = refl
       stray false = refl
+
       go : (o : Option Rule) → is_faultless (option_map_or (λ r. positional_fault s.rules s.args_override_self r h) o (stray_fault s))
           ≡ option_map_or (λ r. positional_passes s.rules s.args_override_self r h) o false
       go None = stray s.is_leaf
@@ -253,6 +254,7 @@ module _ (at : Address × Address) where
     where
       level : Option (Text × List Text) → Bool
       level stop = entered_passes (built (command_of (lent at))) stop && level_passes s [] nothing_held words (is_some (entered (built (command_of (lent at))) stop))
+
       go : (stop : Option (Text × List Text)) → level stop ≡ level_passes s [] nothing_held words false
       go None = refl
       go (Some p) = refl
