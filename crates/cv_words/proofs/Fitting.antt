@@ -6,7 +6,6 @@ use Rattle.std.specs.Str.{bytes_eq}
 use Rattle.std.specs.Str.Parse.{digits_value, without_leading_plus}
 use Rattle.clap.specs.Facts.{explicit_source}
 use Rattle.clap.specs.Faults.{fault_of}
-use Rattle.clap.specs.Kinds.{Kinds}
 use Rattle.clap.specs.Takes.{is_given, set_passes, settle_passes, takes, value_passes, values_pass, walk_passes}
 use Rattle.clap.specs.Values.{Accepts}
 use Rattle.clap.specs.Walk.{Row, Rule, Text, at_row, finished, first_of, has_row, more_values, nothing_held, reading_by, settled, used_as, values_or_missing, walk, walk_from, with_default, with_values, without}
@@ -23,7 +22,7 @@ use Rattle.cv_words.specs.Words.{GivesNumber, HasWords, job_named}
 use Rattle.cv_words.specs.declared.words.Job.TheVariants.{Compute}
 use Rattle.cv_words.specs.declared.words.Words.{Words}
 use Rattle.cv_words.proofs.Given.{named_job}
-use Rattle.cv_words.proofs.Taken.{is_faultless, taken_at, taken_where}
+use Rattle.cv_words.proofs.Taken.{no_fault, taken_at, taken_where}
 use Rattle.cv_words.proofs.Kept.{Keeps, settled_keeps, walk_keeps}
 use Rattle.cv_words.proofs.Lent.{Address, job, lent, limit, rules, shape, size}
 
@@ -237,7 +236,3 @@ module _ (at : Address × Address) where
           size = number_given words (codes "size") 4096 rows.of_size (accepts-Accepts false (Unsigned 1 4096) size_text (rows.of_size.fits.size_fits rows.of_size.named));
         },
       )
-    where
-      no_fault : (kinds : Kinds) → is_faultless kinds ≡ true → kinds ≡ []
-      no_fault [] none = refl
-      no_fault (k ∷ kinds) none = absurd (true≢false (sym none))

@@ -1,5 +1,5 @@
 -- The command takes a line exactly where clap finds no fault in it.
-use Rattle.std.proofs.Common.{◌≡◌, ℕ, zero, suc, Bool, true, false, List, [], ◌∷◌, length, Option, Some, None, refl, sym, ◌∙◌, ap, ap₂, codes, arith, min}
+use Rattle.std.proofs.Common.{◌≡◌, ◌≢◌, true≢false, ℕ, zero, suc, Bool, true, false, List, [], ◌∷◌, length, Option, Some, None, refl, sym, ◌∙◌, ap, ap₂, codes, arith, min}
 use Rattle.std.specs.Prelude.{◌+◌, ◌&&◌, ◌||◌, not, is_some, encode_utf8, slice_get, drop, if◌then◌else◌, nat_le}
 use Rattle.std.specs.Option.{option_map_or}
 use Rattle.std.specs.Str.{bytes_eq, chars}
@@ -26,11 +26,23 @@ abbrev pub is_faultless : Kinds → Bool
 is_faultless [] = true
 is_faultless (k ∷ kinds) = false
 
+pub no_fault : (kinds : Kinds) → is_faultless kinds ≡ true → kinds ≡ []
+no_fault [] none = refl
+no_fault (k ∷ kinds) none = absurd (true≢false (sym none))
+
+pub has_fault : (kinds : Kinds) → kinds ≢ [] → is_faultless kinds ≡ false
+has_fault [] some = absurd (some refl)
+has_fault (k ∷ kinds) some = refl
+
+pub is_fault : (kinds : Kinds) → is_faultless kinds ≡ false → kinds ≢ []
+is_fault [] none = absurd (true≢false none)
+is_fault (k ∷ kinds) none = λ same. cc
+
 faultless_of_two : (one two : Kinds) → is_faultless (or_else one two) ≡ (is_faultless one && is_faultless two)
 faultless_of_two [] two = refl
 faultless_of_two (k ∷ one) two = refl
 
--- neither has a fault exactly where neither pass
+-- neither has a fault exactly where both pass
 neither : (one two : Kinds) (p q : Bool) → is_faultless one ≡ p → is_faultless two ≡ q → is_faultless (or_else one two) ≡ (p && q)
 neither one two p q first second = faultless_of_two one two ∙ ap₂ (λ x y. x && y) first second
 
