@@ -20,6 +20,7 @@ fault_at at words = go (walk (rules (lent at)) [] nothing_held words).stopped
   where
     level : Option (Text × List Text) → Kinds
     level stop = level_fault (shape (lent at)) [] nothing_held words (is_some (entered (built (command_of (lent at))) stop)) (entered_fault (built (command_of (lent at))) stop)
+
     go : (stop : Option (Text × List Text)) → level stop ≡ level_fault (shape (lent at)) [] nothing_held words false []
     go None = refl
     go (Some p) = refl
@@ -47,6 +48,7 @@ module _ (one two : Address × Address) where
     where
       by_id : (c : List Rule) → Text × List Text → Kinds
       by_id c p = option_map_or (λ r. use_fault again r p.1 h.rows) (arg_by_id c p.0) []
+
       go : (pending : Option (Text × List Text)) → option_map_or (by_id a) pending [] ≡ option_map_or (by_id b) pending []
       go None = refl
       go (Some p) = found one two (λ r. bytes_eq r.id p.0) (λ o. option_map_or (λ r. use_fault again r p.1 h.rows) o []) refl (use_same again p.1 h.rows)

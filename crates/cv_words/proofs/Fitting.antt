@@ -1,17 +1,15 @@
 -- A line that the command takes has words: its matches give the job and the numbers.
-use Rattle.std.proofs.Common.{◌≡◌, ◌≢◌, ◌≤◌, ◌||◌, ◌&&◌, ◌++◌, ℕ, zero, suc, Bool, true, false, true≢false, not, List, [], ◌∷◌, length, append-nil, Option, Some, None, is_some, refl, sym, ◌∙◌, ap, subst, arith, codes, leb-true}
-use Rattle.std.specs.Prelude.{⊤, find, fold, nat_le, slice_get, if◌then◌else◌, option_and_then}
-use Rattle.std.specs.List.{list_all, list_any}
+use Rattle.std.proofs.Common.{◌≡◌, ◌≤◌, ◌||◌, ◌&&◌, ◌++◌, ℕ, Bool, true, false, true≢false, not, List, [], ◌∷◌, length, append-nil, Some, None, refl, sym, ◌∙◌, ap, subst, arith, codes, leb-true}
+use Rattle.std.specs.Prelude.{⊤, find, nat_le, slice_get, if◌then◌else◌, option_and_then}
 use Rattle.std.specs.Option.{option_map_or}
 use Rattle.std.specs.Str.{bytes_eq}
 use Rattle.std.specs.Str.Parse.{digits_value, without_leading_plus}
 use Rattle.clap.specs.Facts.{explicit_source}
 use Rattle.clap.specs.Faults.{fault_of}
-use Rattle.clap.specs.Kinds.{Kinds}
-use Rattle.clap.specs.Takes.{is_given, is_valid, level_passes, set_passes, settle_passes, takes, use_passes, value_passes, values_pass, walk_passes}
-use Rattle.clap.specs.Values.{Accepts, IsUnsignedIn}
-use Rattle.clap.specs.Walk.{Row, Rule, Text, at_row, default_rows, finished, first_of, has_row, more_values, nothing_held, reading_by, settled, used, used_as, values_or_missing, walk, walk_from, with_default, with_values, without}
-use Rattle.clap.specs.Simple.{Shape, matches_of}
+use Rattle.clap.specs.Takes.{is_given, set_passes, settle_passes, takes, value_passes, values_pass, walk_passes}
+use Rattle.clap.specs.Values.{Accepts}
+use Rattle.clap.specs.Walk.{Row, Rule, Text, at_row, finished, first_of, has_row, more_values, nothing_held, reading_by, settled, used_as, values_or_missing, walk, walk_from, with_default, with_values, without}
+use Rattle.clap.specs.Simple.{matches_of}
 use Rattle.clap.specs.declared.builder.action.ArgAction.TheVariants.{Set}
 use Rattle.clap.specs.declared.builder.value_parser.ValueParser.TheVariants.{Names, Unsigned}
 use Rattle.clap.specs.declared.parser.matches.ValueSource.{ValueSource}
@@ -24,8 +22,8 @@ use Rattle.cv_words.specs.Words.{GivesNumber, HasWords, job_named}
 use Rattle.cv_words.specs.declared.words.Job.TheVariants.{Compute}
 use Rattle.cv_words.specs.declared.words.Words.{Words}
 use Rattle.cv_words.proofs.Given.{named_job}
-use Rattle.cv_words.proofs.Taken.{is_faultless, taken_at, taken_where}
-use Rattle.cv_words.proofs.Kept.{Keeps, KeepsUse, settled_keeps, walk_keeps}
+use Rattle.cv_words.proofs.Taken.{no_fault, taken_at, taken_where}
+use Rattle.cv_words.proofs.Kept.{Keeps, settled_keeps, walk_keeps}
 use Rattle.cv_words.proofs.Lent.{Address, job, lent, limit, rules, shape, size}
 
 -- ---- rows
@@ -227,8 +225,7 @@ module _ (at : Address × Address) where
       let limit_text = rows.of_limit.fits.text in
       let size_text = rows.of_size.fits.text in
       let named : job_named job_text ≡ Some Compute =
-      named_job (lent at) job_text refl (accepts-Accepts false (Names (lent at)) job_text (rows.of_job.fits.job_fits rows.of_job.named)) in
-      (
+      named_job (lent at) job_text refl (accepts-Accepts false (Names (lent at)) job_text (rows.of_job.fits.job_fits rows.of_job.named)) in (
         record { job = Compute; limit = digits_value 10 (without_leading_plus limit_text); size = digits_value 10 (without_leading_plus size_text) },
         record {
           names = lent at;
@@ -239,7 +236,3 @@ module _ (at : Address × Address) where
           size = number_given words (codes "size") 4096 rows.of_size (accepts-Accepts false (Unsigned 1 4096) size_text (rows.of_size.fits.size_fits rows.of_size.named));
         },
       )
-    where
-      no_fault : (kinds : Kinds) → is_faultless kinds ≡ true → kinds ≡ []
-      no_fault [] none = refl
-      no_fault (k ∷ kinds) none = absurd (true≢false (sym none))

@@ -1,5 +1,5 @@
 -- What each use of an argument keeps of the rows, a line that the command takes keeps.
-use Rattle.std.proofs.Common.{◌≡◌, ℕ, zero, suc, Bool, true, false, List, [], ◌∷◌, length, Option, Some, None, codes}
+use Rattle.std.proofs.Common.{◌≡◌, ℕ, zero, suc, Bool, true, false, List, [], ◌∷◌, length, Option, Some, None}
 use Rattle.std.specs.Prelude.{⊤, ◌&&◌, ◌||◌, not, is_some, find, fold, encode_utf8, slice_get, drop, if◌then◌else◌}
 use Rattle.std.specs.Option.{option_map_or}
 use Rattle.std.specs.Str.{bytes_eq, chars}
@@ -31,6 +31,7 @@ module _ (s : Shape) (Keep : List Row → Type 0) where
         by_id : (o : Option Rule) (values : List Text) → Keeps o → option_map_or (λ r. use_passes again r values h.rows) o true ≡ true → Keep (used_by_id o values h.rows)
         by_id None values keeps passes = kept
         by_id (Some r) values keeps passes = keeps values h.rows passes kept
+
         go : (pending : Option (Text × List Text)) → option_map_or (λ p. option_map_or (λ r. use_passes again r p.1 h.rows) (arg_by_id c p.0) true) pending true ≡ true
             → Keep (settled_rows c pending h.rows)
         go None passes = kept
@@ -153,6 +154,7 @@ module _ (s : Shape) (Keep : List Row → Type 0) where
       where
         met : Held × Step
         met = word_met c names w.is_trailing w.waiting w.position word w.held
+
         go : (stopped : Option (Text × List Text))
             → (is_some stopped || (word_passes s names w.is_trailing w.waiting word w.held && step_passes s w.position met.0 met.1)) ≡ true
             → Keep (walked_from c names stopped w word).held.rows

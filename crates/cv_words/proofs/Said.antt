@@ -1,7 +1,6 @@
 -- Words are refused or read, never both, and what is read of them is single.
-use Rattle.std.proofs.Common.{◌≡◌, ◌≢◌, ◌↔◌, ◌⊎◌, inl, inr, ℕ, Bool, true, false, true≢false, List, [], ◌∷◌, Option, Some, None, refl, sym, ◌∙◌, ap, subst, codes}
+use Rattle.std.proofs.Common.{◌≡◌, ◌≢◌, ◌↔◌, ◌⊎◌, inl, inr, ℕ, Bool, true, false, true≢false, List, [], Some, refl, sym, ◌∙◌, ap, codes}
 use Rattle.clap.specs.Words.{Row, Text, fault_of, first_of, matches_of, takes}
-use Rattle.clap.specs.Kinds.{Kinds}
 use Rattle.cv_words.specs.Command.{Choices, HasJobs, command_of}
 use Rattle.cv_words.specs.Words.{Gives, GivesJob, GivesNumber, HasWords, IsRefused, job_named}
 use Rattle.cv_words.specs.declared.words.Job.{Job}
@@ -9,7 +8,7 @@ use Rattle.cv_words.specs.declared.words.Words.{Words}
 use Rattle.cv_words.proofs.Faulted.{fault_same}
 use Rattle.cv_words.proofs.Fitting.{taken_has_words}
 use Rattle.cv_words.proofs.Lent.{Address, all_are_lent, lent}
-use Rattle.cv_words.proofs.Taken.{is_faultless, taken_where}
+use Rattle.cv_words.proofs.Taken.{has_fault, is_fault, is_faultless, taken_where}
 use Rattle.cv_words.proofs.Walked.{matches_same}
 
 -- what is the same for any two addresses is the same for any two lists
@@ -56,18 +55,6 @@ module _ (words : List Text) where
 
   -- ---- whether they are refused
 
-  has_fault : (kinds : Kinds) → kinds ≢ [] → is_faultless kinds ≡ false
-  has_fault [] some = absurd (some refl)
-  has_fault (k ∷ kinds) some = refl
-
-  is_fault : (kinds : Kinds) → is_faultless kinds ≡ false → kinds ≢ []
-  is_fault [] none = absurd (true≢false none)
-  is_fault (k ∷ kinds) none = λ same. cc
-
-  no_fault : (kinds : Kinds) → is_faultless kinds ≡ true → kinds ≡ []
-  no_fault [] none = refl
-  no_fault (k ∷ kinds) none = absurd (true≢false (sym none))
-
   -- one list of the names finds what another finds
   found_by : (names others : Choices) → HasJobs names → HasJobs others → (answer : Bool) → is_faultless (fault_of (command_of others) words) ≡ answer → takes (command_of names) words ≡ answer
   found_by names others jobs other_jobs answer is = sym (taken_by names jobs) ∙ ap is_faultless (fault_alike names others jobs other_jobs) ∙ is
@@ -102,6 +89,7 @@ module _ (words : List Text) where
     where
       names : Choices
       names = lent ((0, 0), (0, 0))
+
       go : (taken : Bool) → takes (command_of names) words ≡ taken → IsRefused words ⊎ ((read : Words) × HasWords words read)
       go true taken = inr (taken_has_words ((0, 0), (0, 0)) words taken)
       go false not_taken = inl (refused_by names refl not_taken)

@@ -1,5 +1,5 @@
 -- The command takes a line exactly where clap finds no fault in it.
-use Rattle.std.proofs.Common.{◌≡◌, ℕ, zero, suc, Bool, true, false, List, [], ◌∷◌, length, Option, Some, None, refl, sym, ◌∙◌, ap, ap₂, codes, arith, min}
+use Rattle.std.proofs.Common.{◌≡◌, ◌≢◌, true≢false, ℕ, zero, suc, Bool, true, false, List, [], ◌∷◌, length, Option, Some, None, refl, sym, ◌∙◌, ap, ap₂, codes, arith, min}
 use Rattle.std.specs.Prelude.{◌+◌, ◌&&◌, ◌||◌, not, is_some, encode_utf8, slice_get, drop, if◌then◌else◌, nat_le}
 use Rattle.std.specs.Option.{option_map_or}
 use Rattle.std.specs.Str.{bytes_eq, chars}
@@ -26,11 +26,23 @@ abbrev pub is_faultless : Kinds → Bool
 is_faultless [] = true
 is_faultless (k ∷ kinds) = false
 
+pub no_fault : (kinds : Kinds) → is_faultless kinds ≡ true → kinds ≡ []
+no_fault [] none = refl
+no_fault (k ∷ kinds) none = absurd (true≢false (sym none))
+
+pub has_fault : (kinds : Kinds) → kinds ≢ [] → is_faultless kinds ≡ false
+has_fault [] some = absurd (some refl)
+has_fault (k ∷ kinds) some = refl
+
+pub is_fault : (kinds : Kinds) → is_faultless kinds ≡ false → kinds ≢ []
+is_fault [] none = absurd (true≢false none)
+is_fault (k ∷ kinds) none = λ same. cc
+
 faultless_of_two : (one two : Kinds) → is_faultless (or_else one two) ≡ (is_faultless one && is_faultless two)
 faultless_of_two [] two = refl
 faultless_of_two (k ∷ one) two = refl
 
--- neither has a fault exactly where neither pass
+-- neither has a fault exactly where both pass
 neither : (one two : Kinds) (p q : Bool) → is_faultless one ≡ p → is_faultless two ≡ q → is_faultless (or_else one two) ≡ (p && q)
 neither one two p q first second = faultless_of_two one two ∙ ap₂ (λ x y. x && y) first second
 
@@ -184,6 +196,7 @@ module _ (s : Shape) (names : Names) where
           else UnknownArgument ∷ InvalidSubcommand ∷ []) ≡ false
       stray true = refl
       stray false = refl
+
       go : (o : Option Rule) → is_faultless (option_map_or (λ r. positional_fault s.rules s.args_override_self r h) o (stray_fault s))
           ≡ option_map_or (λ r. positional_passes s.rules s.args_override_self r h) o false
       go None = stray s.is_leaf
@@ -253,6 +266,7 @@ module _ (at : Address × Address) where
     where
       level : Option (Text × List Text) → Bool
       level stop = entered_passes (built (command_of (lent at))) stop && level_passes s [] nothing_held words (is_some (entered (built (command_of (lent at))) stop))
+
       go : (stop : Option (Text × List Text)) → level stop ≡ level_passes s [] nothing_held words false
       go None = refl
       go (Some p) = refl

@@ -11,8 +11,9 @@ use std::alloc::Global;
 
 static JOBS: [&str; 1] = ["compute"];
 
-/// The job and the numbers of the options, by clap's definition of what the words match. `Refused` comes exactly where clap
-/// finds a fault in the words, and only where its definition of a line that the command takes doesn't hold.
+/// The job and the numbers of the options, by clap's definition of what the words match. Unless memory runs out, `Refused`
+/// comes exactly where clap finds a fault in the words, which is where its definition of a line that the command takes doesn't
+/// hold.
 pub fn read_words(alloc: Global, words: &[String]) -> Result<Words, WordsErr>
     ensures read { IfOk result (λ read. HasWords (texts_of words.now) read) }
     ensures refused { IsErrOf result WordsErr.Refused → IsRefused (texts_of words.now) }
@@ -22,13 +23,8 @@ pub fn read_words(alloc: Global, words: &[String]) -> Result<Words, WordsErr>
     };
     match command.try_get_matches_from(words) {
         Ok(matches) => Ok(read_matches(&matches)),
-        Err(error) => {
-            if error.kind() == ErrorKind::OutOfMemory {
-                Err(WordsErr::Memory)
-            } else {
-                Err(WordsErr::Refused)
-            }
-        }
+        Err(error) if error.kind() == ErrorKind::OutOfMemory => Err(WordsErr::Memory),
+        Err(_) => Err(WordsErr::Refused),
     }
 }
 
@@ -39,8 +35,8 @@ fn read_matches(matches: &ArgMatches<'_>) -> Words
 {
     Words {
         job: job(matches),
-        limit: number(matches, "limit", 32768),
-        size: number(matches, "size", 4096),
+        limit: number(matches, "limit"),
+        size: number(matches, "size"),
     }
 }
 
@@ -58,10 +54,10 @@ fn job(matches: &ArgMatches<'_>) -> Job
     job
 }
 
-// The number of an option, from 1 to the most.
-fn number(matches: &ArgMatches<'_>, id: &str, most: u32) -> u32
-    requires { MayGiveNumber (found_of matches.now) id.now most }
-    ensures { HasNumber (found_of matches.now) id.now most result }
+// The number of an option.
+fn number(matches: &ArgMatches<'_>, id: &str) -> u32
+    requires { MayGiveNumber (found_of matches.now) id.now 4294967295 }
+    ensures { HasNumber (found_of matches.now) id.now 4294967295 result }
 {
     let Some(text) = matches.get_str(id) else {
         unreachable!()

@@ -22,8 +22,8 @@ returns-in-Ok-try_get_matches_from-clause-read c =
     c.read_matches.result jobs c.in-Ok.ensures c.in-Ok-try_get_matches_from.ensures.matches
     c.in-Ok-try_get_matches_from.ensures.kinds c.read_matches.ensures
 
-pub returns-clause-refused : goal.returns-clause-refused
-returns-clause-refused c =
+pub returns-in-Err-2-clause-refused : goal.returns-in-Err-2-clause-refused
+returns-in-Err-2-clause-refused c =
     let jobs : HasJobs c.as_slice.result = search rules in
     let app = app_of c.in-Ok.command in
     let words = texts_of c.args.words.now in
