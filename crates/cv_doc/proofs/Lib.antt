@@ -5,3 +5,6 @@ pub mod Sound
 pub mod UnderWay
 pub mod WalkLaws
 pub mod Words
+pub mod Strings
+pub mod Parts
+pub mod Sized

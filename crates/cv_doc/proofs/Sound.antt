@@ -20,21 +20,21 @@ use Rattle.cv_doc.specs.Kept.{IsParentOf, IsSound, IsTree}
 
 -- ---- results
 
-ok_parts : {T U : Type 0} (r : Result T Refusal) (next : T → Result U Refusal) (y : U) → and_then r next ≡ Ok y
+pub ok_parts : {T U : Type 0} (r : Result T Refusal) (next : T → Result U Refusal) (y : U) → and_then r next ≡ Ok y
     → (x : T) × (r ≡ Ok x) × (next x ≡ Ok y)
 ok_parts (Ok x) next y e = (x, refl, e)
 ok_parts (Err why) next y e = cc
 
-ok_same : {T : Type 0} (x y : T) → ◌≡◌ {A = Result T Refusal} (Ok x) (Ok y) → x ≡ y
+pub ok_same : {T : Type 0} (x y : T) → ◌≡◌ {A = Result T Refusal} (Ok x) (Ok y) → x ≡ y
 ok_same x y e = cc
 
 -- an option's value, or a refusal
-some_part : {X T : Type 0} (o : Option X) (f : X → Result T Refusal) (why : Refusal) (y : T) → option_map_or f o (Err why) ≡ Ok y
+pub some_part : {X T : Type 0} (o : Option X) (f : X → Result T Refusal) (why : Refusal) (y : T) → option_map_or f o (Err why) ≡ Ok y
     → (x : X) × (o ≡ Some x) × (f x ≡ Ok y)
 some_part None f why y e = cc
 some_part (Some x) f why y e = (x, refl, e)
 
-test_passed : {T : Type 0} (b : Bool) (r : Result T Refusal) (why : Refusal) (y : T) → (if b then r else Err why) ≡ Ok y → (b ≡ true) × (r ≡ Ok y)
+pub test_passed : {T : Type 0} (b : Bool) (r : Result T Refusal) (why : Refusal) (y : T) → (if b then r else Err why) ≡ Ok y → (b ≡ true) × (r ≡ Ok y)
 test_passed true r why y e = (refl, e)
 test_passed false r why y e = cc
 
@@ -44,7 +44,7 @@ le_of m n h = grind (arith, nat_tests)
 lt_of : (m n : ℕ) → nat_lt m n ≡ true → m < n
 lt_of m n h = grind (arith, nat_tests)
 
-test_failed : {T : Type 0} (b : Bool) (r : Result T Refusal) (why : Refusal) (y : T) → (if b then Err why else r) ≡ Ok y → (b ≡ false) × (r ≡ Ok y)
+pub test_failed : {T : Type 0} (b : Bool) (r : Result T Refusal) (why : Refusal) (y : T) → (if b then Err why else r) ≡ Ok y → (b ≡ false) × (r ≡ Ok y)
 test_failed true r why y e = cc
 test_failed false r why y e = (refl, e)
 

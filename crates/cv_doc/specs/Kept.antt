@@ -25,3 +25,8 @@ pub record IsSound (d : Shape) : Type 0 where
   pub few_names : IfSome d.show (λ names. length names ≤ most_names)
   pub names : IfSome d.show (λ names. All (λ name. is_name name ≡ true) names)
   pub few_commands : length d.commands ≤ most_commands
+
+-- the sheet and each style have no more characters than this
+pub record TextsAreWithin (most : ℕ) (d : Shape) : Type 0 where
+  pub sheet : length d.sheet ≤ most
+  pub styles : All (λ element. length element.style ≤ most) d.elements

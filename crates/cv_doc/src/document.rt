@@ -1,7 +1,7 @@
 // The document of bytes.
-ghost use Rattle.std.specs.Prelude.{IfOk};
+ghost use Rattle.std.specs.Prelude.{IfOk, length};
 ghost use Rattle.serde_json.specs.View.{view};
-ghost use Rattle.cv_doc.specs.Kept.{IsSound};
+ghost use Rattle.cv_doc.specs.Kept.{IsSound, TextsAreWithin};
 ghost use Rattle.cv_doc.specs.Reading.{document_in, document_of, members_in, shape_of};
 ghost use Rattle.cv_doc.specs.Refusals.{Answers, RefusesCounted};
 
@@ -46,6 +46,7 @@ impl Document {
         ensures exact { Answers shape_of (document_of bytes.now) result }
         ensures counted { RefusesCounted (document_of bytes.now) }
         ensures sound { IfOk result (λ document. IsSound (shape_of document)) }
+        ensures sized { IfOk result (λ document. TextsAreWithin (length bytes.now) (shape_of document)) }
     {
         match read_json(alloc, bytes)? {
             Some(value) => document_of_value(alloc, &value),

@@ -1,7 +1,7 @@
 // The names that a document asks to be shown.
-ghost use Rattle.std.specs.Prelude.{◌≡◌, ◌≤◌, length, option_map, option_and_then, Some, IfOk, string_bytes};
+ghost use Rattle.std.specs.Prelude.{◌≡◌, ◌≤◌, length, option_map, Some, IfOk, string_bytes};
 ghost use Rattle.serde_json.specs.View.{items_view, view};
-ghost use Rattle.cv_doc.specs.Members.{is_name, name_in, name_of, names_of, show_in, show_path};
+ghost use Rattle.cv_doc.specs.Members.{name_in, name_of, names_of, show_in, show_path};
 ghost use Rattle.cv_doc.specs.Json.{text_of};
 ghost use Rattle.cv_doc.specs.Refusals.{Answers, all_from};
 

@@ -6,3 +6,4 @@ mod Keeping
 mod Numbered
 mod Items
 mod Split
+mod Few

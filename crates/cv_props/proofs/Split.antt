@@ -1,5 +1,5 @@
 -- The items and rules of a list are no more than its tokens, and hold only tokens that are spelt where the list's are.
-use Rattle.std.proofs.Common.{◌≡◌, ℕ, suc, zero, pred, ◌-◌, ◌<◌, ◌≤◌, ◌||◌, Bool, true, false, List, [], ◌∷◌, ◌++◌, length, map, reverse, take, Option, Some, None, refl, sym, ap, ◌∙◌, subst, length-append, lit<, arith}
+use Rattle.std.proofs.Common.{◌≡◌, ℕ, suc, zero, pred, ◌-◌, ◌<◌, ◌≤◌, ◌||◌, Bool, true, false, List, [], ◌∷◌, ◌++◌, length, map, reverse, take, Option, Some, None, refl, sym, ap, ◌∙◌, subst, lit<, arith}
 use Rattle.std.specs.Prelude.{All, Contains, IsAscii, IfSome, if◌then◌else◌, option_map, ◌==◌}
 use Rattle.std.specs.List.{list_any}
 use Rattle.std.proofs.lemmas.List.Elements.{All-nil, All-cons, All-tail, All-append, All-map, All-take}
@@ -20,37 +20,23 @@ use Rattle.cv_component.specs.Nesting.{completed, nesting_past}
 use Rattle.cv_component.specs.TopLevel.{trim_front, trim_end}
 use Rattle.cv_component.specs.Items.{is_important, before_mark, before_importance, unimportant, declared_value, declaration_by, declaration, item, item_length, item_size, item_at, begins_item, items}
 use Rattle.cv_component.specs.Rules.{rule, rule_length, rule_size, rule_at, begins_rule, rules}
+use Rattle.cv_token.proofs.Few.{run_values-few}
 use Rattle.cv_props.specs.Reading.{IsSpeltItem}
 
-module _ {A B : Type 0} (size : List A → ℕ) (value : List A → List B) where
-  -- each piece gives one value at most
-  few_within : ((l : List A) → length (value l) ≤ 1) → (within : ℕ) (all : List A) → length (run_values_within size value within all) ≤ length all
-  few_within one within [] = omega arith
-  few_within one (suc within) (x ∷ xs) = omega (arith, few_within one within xs)
-  few_within one zero (x ∷ xs) = by (few_within one (pred (size (x ∷ xs))) xs) (size (x ∷ xs))
+module _ {A B : Type 0} (size : List A → ℕ) (value : List A → List B) (P : A → Type 0) (Q : B → Type 0) (each : (l : List A) → All P l → All Q (value l)) where
+  all_within : (within : ℕ) (all : List A) → All P all → All Q (run_values_within size value within all)
+  all_within within [] holds = All-nil Q
+  all_within (suc within) (x ∷ xs) holds = all_within within xs (All-tail P x xs holds)
+  all_within zero (x ∷ xs) holds = by (all_within (pred (size (x ∷ xs))) xs (All-tail P x xs holds)) (size (x ∷ xs))
     where
-      by : length (run_values_within size value (pred (size (x ∷ xs))) xs) ≤ length xs → (n : ℕ) → length (these_if n (value (x ∷ xs) ++ run_values_within size value (pred (size (x ∷ xs))) xs)) ≤ suc (length xs)
-      by rest zero = omega arith
-      by rest (suc n) = omega (arith, length-append (value (x ∷ xs)) (run_values_within size value (pred (size (x ∷ xs))) xs), one (x ∷ xs))
+      by : All Q (run_values_within size value (pred (size (x ∷ xs))) xs) → (n : ℕ) → All Q (these_if n (value (x ∷ xs) ++ run_values_within size value (pred (size (x ∷ xs))) xs))
+      by rest zero = All-nil Q
+      by rest (suc n) = All-append Q (value (x ∷ xs)) _ (each (x ∷ xs) holds) rest
 
-  pub run_values-few : ((l : List A) → length (value l) ≤ 1) → (all : List A) → length (run_values size value all) ≤ length all
+  -- what holds of the values of lists whose elements are so holds of the values of the run
+  pub run_values-All : (all : List A) → All P all → All Q (run_values size value all)
   unfolding run_values
-  run_values-few one all = few_within one 0 all
-
-  module _ (P : A → Type 0) (Q : B → Type 0) (each : (l : List A) → All P l → All Q (value l)) where
-    all_within : (within : ℕ) (all : List A) → All P all → All Q (run_values_within size value within all)
-    all_within within [] holds = All-nil Q
-    all_within (suc within) (x ∷ xs) holds = all_within within xs (All-tail P x xs holds)
-    all_within zero (x ∷ xs) holds = by (all_within (pred (size (x ∷ xs))) xs (All-tail P x xs holds)) (size (x ∷ xs))
-      where
-        by : All Q (run_values_within size value (pred (size (x ∷ xs))) xs) → (n : ℕ) → All Q (these_if n (value (x ∷ xs) ++ run_values_within size value (pred (size (x ∷ xs))) xs))
-        by rest zero = All-nil Q
-        by rest (suc n) = All-append Q (value (x ∷ xs)) _ (each (x ∷ xs) holds) rest
-
-    -- what holds of the values of lists whose elements are so holds of the values of the run
-    pub run_values-All : (all : List A) → All P all → All Q (run_values size value all)
-    unfolding run_values
-    run_values-All all holds = all_within 0 all holds
+  run_values-All all holds = all_within 0 all holds
 
 one_item : (l : List Token) → length (item_at l) ≤ 1
 one_item l = by (begins_item l)

@@ -1,7 +1,6 @@
 // The names of properties.
-ghost use Rattle.std.specs.Prelude.{◌≡◌, ◌++◌, chars, IfOk, OnOk, OnErr, encode_utf8_all};
+ghost use Rattle.std.specs.Prelude.{◌≡◌, ◌++◌, chars, IfOk, OnOk, OnErr};
 ghost use Rattle.std.specs.Cmp.{partial_equiv_from_equiv};
-ghost use Rattle.std.specs.Hash as fed;
 ghost use Rattle.cv_props.specs.Keys.{key_input, key_named, key_text, same_key};
 ghost use Rattle.cv_props.specs.KeyLaws.{same_key_equiv, fed_alike};
 

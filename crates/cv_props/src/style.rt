@@ -1,5 +1,5 @@
 // The declarations of a style.
-ghost use Rattle.std.specs.Prelude.{◌≡◌, ◌++◌, ◌<◌, ◌^◌, Bool, false, None, [], length, All, Ok, IfOk, IfErr, OnOk};
+ghost use Rattle.std.specs.Prelude.{◌≡◌, ◌++◌, ◌<◌, ◌≤◌, false, None, length, All, Ok, IfOk, IfErr, OnOk};
 ghost use Rattle.cv_spec_text.specs.Splits.{IsSpelt};
 ghost use Rattle.cv_component.specs.Items.{items};
 ghost use Rattle.cv_props.specs.Declaring.{MayDeclare};
@@ -49,6 +49,7 @@ impl Decls {
         requires built { DeclareCustomAlone (items tokens.now) }
         ensures declarations { IfOk result (λ style. style.0 ≡ winners (kept_declarations (items tokens.now))) }
         ensures notes { IfOk result (λ style. style.1.items ≡ notes_on element (items tokens.now)) }
+        ensures few { IfOk result (λ style. length style.0 ≤ length tokens.now) }
     {
         let pieces = declarations(alloc, tokens)?;
         of_items(alloc, element, &pieces)

@@ -1,5 +1,5 @@
 // Styles by their text.
-ghost use Rattle.std.specs.Prelude.{◌≡◌, ◌<◌, length, false};
+ghost use Rattle.std.specs.Prelude.{◌<◌, length, false};
 
 use crate::{
     Decls, Key, NotePlace, Outcome, Property, Why, declares_ordinary, key_text, outcome_text,

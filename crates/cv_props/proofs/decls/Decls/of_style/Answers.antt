@@ -1,7 +1,8 @@
-use Rattle.std.proofs.Common.{◌≡◌, false, ap, sym, ◌∙◌, subst, length, arith}
+use Rattle.std.proofs.Common.{◌≡◌, false, ap, sym, ◌∙◌, subst, length, arith, rules}
 use Rattle.std.specs.Prelude.{All}
 use Rattle.cv_props.specs.Kept.{declares_ordinary}
 use Rattle.cv_props.specs.Reading.{IsSpeltItem}
+use Rattle.cv_props.proofs.Few.{few_of_style}
 use Rattle.cv_props.proofs.Split.{few_items, none_pass, spelt_items}
 use Rattle.cv_props.proofs.decls.Decls.of_style.Goals as goal
 
@@ -17,3 +18,6 @@ of_items-requires-clause-few c =
 pub of_items-requires-clause-built : goal.of_items-requires-clause-built
 of_items-requires-clause-built c =
     subst (All (λ piece. declares_ordinary piece ≡ false)) (sym (c.deref.ensures.value ∙ c.in_ok-pieces.ensures)) (none_pass declares_ordinary _ c.requires.built)
+
+pub returns-clause-few : goal.returns-clause-few
+returns-clause-few c = few_of_style c.args.tokens.now c.of_items.result (search rules)
