@@ -5,11 +5,11 @@ use cv_frac::Frac;
 use sqlite_items::Items;
 use std::alloc::{AllocError, Global};
 
-/// Two numbers of two units.
-fn pair(alloc: Global, first: Unit, second: Unit) -> Result<Items<Calc>, AllocError> {
+/// 1 of a unit, and a number of another.
+fn pair(alloc: Global, first: Unit, n: u32, second: Unit) -> Result<Items<Calc>, AllocError> {
     let mut children = Items::new(alloc);
     children.push(Calc::Num(Frac::whole(1), first))?;
-    children.push(Calc::Num(Frac::whole(5), second))?;
+    children.push(Calc::Num(Frac::whole(n), second))?;
     Ok(children)
 }
 
@@ -24,9 +24,9 @@ fn length_of(kind: Option<NumType>) -> Option<(i64, i64, Option<Base>)> {
 #[test]
 fn types_of_two_numbers(rt: HostRuntime) {
     let alloc = rt.alloc();
-    let area = Calc::Product(pair(alloc, Unit::Px, Unit::Px).expect(&rt, "memory"));
-    let length = Calc::Sum(pair(alloc, Unit::Px, Unit::Percent).expect(&rt, "memory"));
-    let none = Calc::Sum(pair(alloc, Unit::Px, Unit::Number).expect(&rt, "memory"));
+    let area = Calc::Product(pair(alloc, Unit::Px, 1, Unit::Px).expect(&rt, "memory"));
+    let length = Calc::Sum(pair(alloc, Unit::Px, 5, Unit::Percent).expect(&rt, "memory"));
+    let none = Calc::Sum(pair(alloc, Unit::Px, 1, Unit::Number).expect(&rt, "memory"));
     assert_eq!(rt; length_of(type_of(&area)), Some((2, 0, None)));
     assert_eq!(rt;
         length_of(type_of(&length)),

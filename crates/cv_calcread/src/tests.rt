@@ -5,9 +5,10 @@ use cv_calc::{Calc, Unit};
 use cv_spec_text::{Bracket, Name, Token};
 use std::alloc::{AllocError, Global};
 
-/// A piece of a list: a function, a number of px, a number, another sign, or White.
+/// A piece of a list: a word, a function, a number of px, a number, another sign, or White.
 #[derive(Clone, Copy)]
 enum Piece {
+    Word(&'static str),
     Opens(&'static str),
     Px(&'static str),
     Number(&'static str),
@@ -17,10 +18,11 @@ enum Piece {
     Close,
 }
 
-use Piece::{Close, Number, Open, Opens, Px, Sign, White};
+use Piece::{Close, Number, Open, Opens, Px, Sign, White, Word};
 
 fn token(alloc: Global, piece: Piece) -> Result<Token, AllocError> {
     Ok(match piece {
+        Word(name) => Token::Ident(Name::of(alloc, name)?),
         Opens(name) => Token::Function(Name::of(alloc, name)?),
         Px(spelling) => Token::Dimension(Name::of(alloc, spelling)?, Name::of(alloc, "px")?),
         Number(spelling) => Token::Number(Name::of(alloc, spelling)?),
@@ -56,6 +58,14 @@ fn refused(answer: Result<Calc, CalcErr>) -> Option<(&'static str, usize)> {
     }
 }
 
+/// The two numbers of a fraction and its unit.
+fn number_of(c: &Calc) -> Option<(i64, i64, Unit)> {
+    match c {
+        Calc::Num(v, unit) => Some((v.top(), v.bottom(), *unit)),
+        _ => None,
+    }
+}
+
 #[test]
 fn a_sum_is_read(rt: HostRuntime) {
     let list = [
@@ -68,7 +78,13 @@ fn a_sum_is_read(rt: HostRuntime) {
         Close,
     ];
     match read(rt.alloc(), &list) {
-        Ok(Calc::Sum(children)) => assert_eq!(rt; children.len(), 2),
+        Ok(Calc::Sum(children)) => match children.as_slice() {
+            [first, second] => {
+                assert_eq!(rt; number_of(first), Some((1, 1, Unit::Px)));
+                assert_eq!(rt; number_of(second), Some((2, 1, Unit::Px)));
+            }
+            _ => assert!(rt; false),
+        },
         _ => assert!(rt; false),
     }
 }
@@ -103,6 +119,7 @@ fn lists_are_refused(rt: HostRuntime) {
         Close,
     ];
     let wide = [Opens("calc"), Px("1"), Sign('/'), Number("1e30"), Close];
+    assert_eq!(rt; refused(read(alloc, &[Word("red")])), Some(("shape", 0)));
     assert_eq!(rt; refused(read(alloc, &mixed)), Some(("type", 0)));
     assert_eq!(rt; refused(read(alloc, &unspaced)), Some(("shape", 0)));
     assert_eq!(rt; refused(read(alloc, &zero)), Some(("zero", 3)));

@@ -3,6 +3,7 @@ pub mod Bounds
 pub mod Canonical
 pub mod CleanTexts
 pub mod Divisors
+pub mod Firsts
 pub mod Folds
 pub mod InRange
 pub mod Kept
@@ -32,3 +33,4 @@ pub mod TreeKinds
 pub mod TypesKept
 pub mod UnitKinds
 pub mod UnitOrder
+pub mod UnitRanks

@@ -1,12 +1,14 @@
 -- A term goes past each item with which it can't be joined.
-use Rattle.std.specs.Prelude.{List, [], ◌∷◌, ◌++◌, Option, Some, None, option_map, fold, map, slice_get, slice_set}
-use Rattle.std.proofs.Common.{◌≡◌, ℕ, zero, suc, ◌+◌, ◌<◌, ◌≤◌, length, take, drop, get_or, refl, sym, ◌∙◌, ap, ap₂, arith}
+use Rattle.std.specs.Prelude.{Bool, true, false, ◌&&◌, List, [], ◌∷◌, ◌++◌, Option, Some, None, option_map, fold, map, slice_set}
+use Rattle.std.proofs.Common.{◌≡◌, ℕ, zero, suc, ◌+◌, ◌<◌, ◌≤◌, length, take, drop, reverse, get_or, refl, sym, ◌∙◌, ap, ap₂, arith}
+use Rattle.std.proofs.lemmas.List.{reverse-append}
 use Rattle.cv_ratio.specs.Ratio.{Ratio}
 use Rattle.cv_calc.specs.declared.calc.Calc.{Calc}
+use Rattle.cv_calc.specs.declared.calc.Calc.TheViews.{out-Calc}
 use Rattle.cv_simplify.specs.declared.joining.Joining.{Joining}
 use Rattle.cv_simplify.specs.declared.joining.Joined.TheVariants.{Apart, Outside, One}
 use Rattle.cv_simplify.specs.declared.joining.Joining.TheVariants as joining
-use Rattle.cv_simplify.specs.Checked.{joined_within, term_first, with_term, with_further, with_terms, further, term_scaled, with_scaled}
+use Rattle.cv_simplify.specs.Checked.{joined_within, term_first, with_term, with_further, with_terms, further, term_scaled, with_scaled, is_num, and_num, all_nums}
 use Rattle.cv_simplify.proofs.Folds.{stays, absorbed, absorbed_here}
 
 module _ (how : Joining) (d : Calc) where
@@ -14,7 +16,7 @@ module _ (how : Joining) (d : Calc) where
   abbrev pub passed : ℕ → List Calc → Option (List Calc)
   passed i row = option_map (λ more. take i row ++ more) (with_term how (drop i row) d)
 
-  option_cons : (c : Calc) (before : List Calc) (o : Option (List Calc)) → option_map (λ more. c ∷ (before ++ more)) o ≡ option_map (λ ds. c ∷ ds) (option_map (λ more. before ++ more) o)
+  pub option_cons : (c : Calc) (before : List Calc) (o : Option (List Calc)) → option_map (λ more. c ∷ (before ++ more)) o ≡ option_map (λ ds. c ∷ ds) (option_map (λ more. before ++ more) o)
   option_cons c before None = refl
   option_cons c before (Some more) = refl
 
@@ -57,11 +59,9 @@ module _ (how : Joining) (d : Calc) where
   passed-end (x ∷ xs) (suc i) h = option_cons x (take i xs) _ ∙ ap (option_map (λ ds. x ∷ ds)) (passed-end xs i (omega arith))
 
 -- a term that can't be joined within bounds ends a row
-pub ends : (row terms : List Calc) (t : Calc) → slice_get terms 0 ≡ Some t → with_term joining.Sum row t ≡ None → with_terms row terms ≡ None
-ends row [] t is none = cc
-ends row (x ∷ xs) t is none =
-    let same : x ≡ t = cc in
-    ap (λ o. fold with_further o xs) (ap (with_term joining.Sum row) same ∙ none) ∙ stays with_further None (λ c. refl) xs
+pub ends : (row rest : List Calc) (t : Calc) → with_term joining.Sum row t ≡ None → with_terms row (reverse (rest ++ t ∷ [])) ≡ None
+ends row rest t none =
+    ap (with_terms row) (reverse-append rest (t ∷ [])) ∙ ap (λ o. fold with_further o (reverse rest)) none ∙ stays with_further None (λ c. refl) (reverse rest)
 
 -- a step for which there is nothing, or that comes to nothing, ends a fold
 pub ended_without : {S A B : Type 0} (f : S → A → Option S) (g : B → Option A) (start : Option S) (xs : List B) (i : ℕ) (d : B) (s : S) → i < length xs →
@@ -75,3 +75,11 @@ ended_at f g start xs i d s a h is item none = absorbed (further f) None (λ b. 
 pub scaled_ends : (n : Ratio) (xs : List Calc) (i : ℕ) (d : Calc) (row : List Calc) → i < length xs →
     Some row ≡ fold (with_scaled n) (Some []) (take i xs) → term_scaled n (get_or xs i d) ≡ None → fold (with_scaled n) (Some []) xs ≡ None
 scaled_ends n xs i d row h is none = absorbed_here (with_scaled n) None (λ a. refl) (Some []) xs i d h (ap₂ (further (λ r e. Some (r ++ e ∷ []))) (sym is) none)
+
+-- a term that is no number ends the test of all
+pub nums_end : (xs : List Calc) (i : ℕ) (d : Calc) → i < length xs → is_num (out-Calc (get_or xs i d)) ≡ false → all_nums xs ≡ false
+nums_end xs i d h none = absorbed_here and_num false (λ a. refl) true xs i d h (ap₂ (λ a b. a && b) refl none ∙ and_false (all_nums (take i xs)))
+  where
+    and_false : (b : Bool) → (b && false) ≡ false
+    and_false true = refl
+    and_false false = refl

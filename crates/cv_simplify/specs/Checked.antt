@@ -78,6 +78,12 @@ joined_as_within how _ _ = Apart
 abbrev pub joined_within : Joining → Calc → Calc → Joined
 joined_within how c d = joined_as_within how (out-Calc c) (out-Calc d)
 
+-- what becomes of them: nothing, or one calculation, which is nothing where it is out of bounds
+abbrev pub outcome : Joined → Option (Option Calc)
+outcome Apart = None
+outcome Outside = Some None
+outcome (One c) = Some (Some c)
+
 abbrev pub term_first : Joined → Calc → List Calc → Option (List Calc) → Option (List Calc)
 term_first (One e) c cs more = Some (e ∷ cs)
 term_first Outside c cs more = None

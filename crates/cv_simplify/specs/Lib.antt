@@ -2,6 +2,7 @@ pub mod Agrees
 pub mod Canonical
 pub mod Checked
 pub mod Counted
+pub mod Firsts
 pub mod Number
 pub mod Row
 pub mod Simplified

@@ -1,5 +1,6 @@
 -- The simplified form of a calculation in a context, by recursion on the tree, in fractions of any size (CSS Values and Units 4,
 -- "Simplification"). A percentage is compared only where it stands for itself, and a factor is multiplied into a sum of numbers alone.
+-- That the terms which are left keep their order, each number at the place of the first of its unit, is this project's own.
 use Rattle.std.specs.Prelude.{Bool, true, false, ◌&&◌, not, List, [], ◌∷◌, fold, Option, Some, None, option_map, if◌then◌else◌}
 use Rattle.cv_ratio.specs.Ratio.{Ratio, add, mul, neg, reciprocal}
 use Rattle.cv_calc.specs.declared.unit.Unit.TheVariants.{Number, Percent, Px}

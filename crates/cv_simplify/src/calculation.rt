@@ -14,7 +14,7 @@ ghost use Rattle.cv_simplify.specs.Checked.{checked as checked_of, row_within, f
 use crate::error::SimpErr;
 use crate::factors::{Factors, shown, with_child};
 use crate::joining::{Joining, compares_percent};
-use crate::row::with_simple;
+use crate::row::{Row, with_simple};
 use crate::single::{inverted, literal_in, negated, within_limits};
 use cv_calc::{Calc, Context};
 use sqlite_items::Items;
@@ -59,17 +59,17 @@ fn row(
 ) -> Result<Option<Items<Calc>>, AllocError>
     ensures { IfOk result (λ o. o ≡ row_within how (map (checked_of x.now) children.now)) }
 {
-    let mut row = Items::new(alloc);
+    let mut row = Row::new(alloc)?;
     for child in children {
         match checked(alloc, child, x)? {
-            Some(simple) => match with_simple(how, row, simple)? {
+            Some(simple) => match with_simple(alloc, how, row, simple)? {
                 Some(next) => row = next,
                 None => return Ok(None),
             },
             None => return Ok(None),
         }
     }
-    Ok(Some(row))
+    Ok(Some(row.into_terms()))
 }
 
 /// The sum of some children.

@@ -3,9 +3,11 @@
 ghost use Rattle.std.specs.Prelude.{◌≡◌, ◌∷◌, ◌++◌, IfOk, fold, Some, []};
 ghost use Rattle.cv_calc.specs.declared.calc.Calc.TheViews.{out-Calc};
 ghost use Rattle.cv_simplify.specs.Simplified.{factors_of, one_or};
-ghost use Rattle.cv_simplify.specs.Checked.{number_factor as number_factor_of, other_factor as other_factor_of, with_factor as factors_with, term_scaled as scaled_term, with_scaled, all_nums as all_are_nums, is_num as is_num_as, scaled_within, other_scaled as scaled_other_of, shown as shown_of, is_shown, with_child as factors_with_child};
+ghost use Rattle.cv_simplify.specs.Checked.{number_factor as number_factor_of, other_factor as other_factor_of, with_factor as factors_with, term_scaled as scaled_term, with_scaled, all_nums as all_are_nums, is_num as is_num_as, outcome, scaled_within, other_scaled as scaled_other_of, shown as shown_of, is_shown, with_child as factors_with_child};
 
+use crate::joining::Joined;
 use crate::number::Number;
+use crate::reversed::reversed;
 use cv_calc::{Calc, Unit};
 use cv_frac::Frac;
 use sqlite_items::Items;
@@ -71,12 +73,12 @@ fn with_factor(alloc: Global, factors: Factors, c: Calc) -> Result<Factors, Allo
 fn with_factors(
     alloc: Global,
     mut factors: Factors,
-    mut more: Items<Calc>,
+    more: Items<Calc>,
 ) -> Result<Factors, AllocError>
     ensures { IfOk result (λ fs. fs ≡ fold factors_with factors more) }
 {
-    while !more.is_empty() {
-        let factor = more.remove(0);
+    let mut rest = reversed(alloc, more)?;
+    while let Some(factor) = rest.pop() {
         factors = with_factor(alloc, factors, factor)?;
     }
     Ok(factors)
@@ -134,30 +136,34 @@ fn is_num(term: &Calc) -> bool
 fn all_nums(terms: &[Calc]) -> bool
     ensures { result ≡ all_are_nums terms.now }
 {
-    let mut all = true;
     for term in terms {
-        all = all && is_num(term);
+        if !is_num(term) {
+            return false;
+        }
     }
-    all
+    true
 }
 
-/// A number times the other factor, where this is a number with a unit or a sum of numbers, and `None` within where it is out of bounds.
-fn scaled(alloc: Global, number: &Number, other: &Calc) -> Result<Option<Option<Calc>>, AllocError>
-    ensures { IfOk result (λ o. o ≡ scaled_within number.now other.now) }
+/// A number times the other factor, where this is a number with a unit or a sum of numbers.
+fn scaled(alloc: Global, number: &Number, other: &Calc) -> Result<Joined, AllocError>
+    ensures { IfOk result (λ j. outcome j ≡ scaled_within number.now other.now) }
 {
     match other {
-        Calc::Num(_, _) => Ok(Some(term_scaled(alloc, number, other)?)),
+        Calc::Num(_, _) => match term_scaled(alloc, number, other)? {
+            Some(product) => Ok(Joined::One(product)),
+            None => Ok(Joined::Outside),
+        },
         Calc::Sum(terms) => {
             if all_nums(terms.as_slice()) {
                 match terms_scaled(alloc, number, terms.as_slice())? {
-                    Some(row) => Ok(Some(Some(Calc::Sum(row)))),
-                    None => Ok(Some(None)),
+                    Some(row) => Ok(Joined::One(Calc::Sum(row))),
+                    None => Ok(Joined::Outside),
                 }
             } else {
-                Ok(None)
+                Ok(Joined::Apart)
             }
         }
-        _ => Ok(None),
+        _ => Ok(Joined::Apart),
     }
 }
 
@@ -167,13 +173,13 @@ fn other_scaled(
     before: &[Calc],
     number: &Number,
     after: &[Calc],
-) -> Result<Option<Option<Calc>>, AllocError>
-    ensures { IfOk result (λ o. o ≡ scaled_other_of before.now number.now after.now) }
+) -> Result<Joined, AllocError>
+    ensures { IfOk result (λ j. outcome j ≡ scaled_other_of before.now number.now after.now) }
 {
     match (before, after) {
         ([other], []) => scaled(alloc, number, other),
         ([], [other]) => scaled(alloc, number, other),
-        _ => Ok(None),
+        _ => Ok(Joined::Apart),
     }
 }
 
@@ -186,8 +192,9 @@ fn is_within(alloc: Global, factors: &mut Factors) -> Result<bool, AllocError>
         Factors::Plain(_) => Ok(true),
         Factors::Numbered(before, number, after) => {
             match other_scaled(alloc, before.as_slice(), number, after.as_slice())? {
-                Some(product) => Ok(product.is_some()),
-                None => Ok(number.value(alloc)?.is_some()),
+                Joined::One(_) => Ok(true),
+                Joined::Outside => Ok(false),
+                Joined::Apart => Ok(number.value(alloc)?.is_some()),
             }
         }
     }
@@ -221,8 +228,9 @@ pub(crate) fn shown(alloc: Global, factors: Factors) -> Result<Option<Calc>, All
         Factors::Plain(others) => Ok(Some(one_or_product(others))),
         Factors::Numbered(before, mut number, after) => {
             match other_scaled(alloc, before.as_slice(), &number, after.as_slice())? {
-                Some(product) => Ok(product),
-                None => match number.value(alloc)? {
+                Joined::One(product) => Ok(Some(product)),
+                Joined::Outside => Ok(None),
+                Joined::Apart => match number.value(alloc)? {
                     Some(v) => Ok(Some(product_with(before, v, after)?)),
                     None => Ok(None),
                 },

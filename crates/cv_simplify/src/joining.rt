@@ -17,7 +17,7 @@ pub(crate) enum Joining {
     Greatest(bool),
 }
 
-/// Two calculations that aren't joined, or that become one number, which may be out of bounds.
+/// Two calculations that aren't joined, or that become one, which may be out of bounds.
 #[derive(Drop)]
 pub(crate) enum Joined {
     Apart,

@@ -9,6 +9,8 @@ mod joining;
 mod laws;
 mod number;
 mod place;
+mod rank;
+mod reversed;
 mod row;
 mod single;
 #[cfg(test)]

@@ -24,8 +24,7 @@ pub(crate) fn prefix(alloc: Global, place: Place) -> Result<Vec<Token>, AllocErr
     ensures { IfOk result (λ ts. ts.items ≡ prefix_of place) }
 {
     match place {
-        Place::Operand => Ok(Vec::new(alloc)),
-        Place::Whole => Ok(Vec::new(alloc)),
+        Place::Operand | Place::Whole => Ok(Vec::new(alloc)),
         Place::Added => operator(alloc, '+'),
         Place::Multiplied => operator(alloc, '*'),
         Place::Argument => {
@@ -117,10 +116,9 @@ pub(crate) fn negative_placed(
 {
     match place {
         Place::Added => joined(operator(alloc, '-')?, child),
-        Place::Operand => placed(alloc, place, operation(alloc, b"-1", '*', child)?),
-        Place::Whole => placed(alloc, place, operation(alloc, b"-1", '*', child)?),
-        Place::Multiplied => placed(alloc, place, operation(alloc, b"-1", '*', child)?),
-        Place::Argument => placed(alloc, place, operation(alloc, b"-1", '*', child)?),
+        Place::Operand | Place::Whole | Place::Multiplied | Place::Argument => {
+            placed(alloc, place, operation(alloc, b"-1", '*', child)?)
+        }
     }
 }
 
@@ -134,10 +132,9 @@ pub(crate) fn inverse_placed(
 {
     match place {
         Place::Multiplied => joined(operator(alloc, '/')?, child),
-        Place::Operand => placed(alloc, place, operation(alloc, b"1", '/', child)?),
-        Place::Whole => placed(alloc, place, operation(alloc, b"1", '/', child)?),
-        Place::Added => placed(alloc, place, operation(alloc, b"1", '/', child)?),
-        Place::Argument => placed(alloc, place, operation(alloc, b"1", '/', child)?),
+        Place::Operand | Place::Whole | Place::Added | Place::Argument => {
+            placed(alloc, place, operation(alloc, b"1", '/', child)?)
+        }
     }
 }
 

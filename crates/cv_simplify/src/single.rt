@@ -39,7 +39,7 @@ fn number_in(v: Frac, unit: Unit, x: &Context) -> Option<Calc>
     }
 }
 
-/// A fraction, which is in bounds.
+/// A fraction, which is in bounds: its two numbers are read for the prover alone, which then knows the bounds of their type.
 fn literal(v: Frac) -> Frac
     ensures same { result ≡ v }
     ensures small { in_bounds v ≡ true }

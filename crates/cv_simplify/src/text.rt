@@ -3,53 +3,16 @@
 ghost use Rattle.std.specs.Prelude.{◌≡◌, IfOk, map, All};
 ghost use Rattle.cv_spec_text.specs.Splits.{IsSpelt};
 ghost use Rattle.cv_tokser.specs.Clean.{IsClean};
-ghost use Rattle.cv_simplify.specs.Text.{unit_rank as rank_of_unit, written, with_ranked as line_with_ranked, line_of, arguments_of, calc_text};
+ghost use Rattle.cv_simplify.specs.Text.{written, with_ranked as line_with_ranked, line_of, arguments_of, calc_text};
 
 use crate::place::{
     Place, call_placed, clamp_placed, inverse_placed, negative_placed, number_placed, placed,
 };
+use crate::rank::{LAST_RANK, RANKS, unit_rank};
 use crate::tokens::{call, joined, number_alone};
-use cv_calc::{Calc, Unit};
+use cv_calc::Calc;
 use cv_spec_text::Token;
 use std::alloc::{AllocError, Global};
-
-/// The place of a unit in the order of names, behind numbers and percentages.
-fn unit_rank(unit: Unit) -> u32
-    ensures { result ≡ rank_of_unit unit }
-{
-    match unit {
-        Unit::Number => 0,
-        Unit::Percent => 1,
-        Unit::Q => 2,
-        Unit::Ch => 3,
-        Unit::Cm => 4,
-        Unit::Deg => 5,
-        Unit::Dpcm => 6,
-        Unit::Dpi => 7,
-        Unit::Dppx => 8,
-        Unit::Em => 9,
-        Unit::Ex => 10,
-        Unit::Fr => 11,
-        Unit::Grad => 12,
-        Unit::Hz => 13,
-        Unit::Ic => 14,
-        Unit::Inch => 15,
-        Unit::Khz => 16,
-        Unit::Mm => 17,
-        Unit::Ms => 18,
-        Unit::Pc => 19,
-        Unit::Pt => 20,
-        Unit::Px => 21,
-        Unit::Rem => 22,
-        Unit::S => 23,
-        Unit::Turn => 24,
-        Unit::Vh => 25,
-        Unit::Vmax => 26,
-        Unit::Vmin => 27,
-        Unit::Vw => 28,
-        Unit::X => 29,
-    }
-}
 
 /// The place of a calculation among its siblings.
 #[tactic(auto, using(crate::proofs::Texts::written_equations))]
@@ -58,13 +21,13 @@ fn rank(c: &Calc) -> u32
 {
     match c {
         Calc::Num(_, unit) => unit_rank(*unit),
-        Calc::Sum(_) => 30,
-        Calc::Product(_) => 30,
-        Calc::Negate(_) => 30,
-        Calc::Invert(_) => 30,
-        Calc::Min(_) => 30,
-        Calc::Max(_) => 30,
-        Calc::Clamp(_, _, _) => 30,
+        Calc::Sum(_) => LAST_RANK,
+        Calc::Product(_) => LAST_RANK,
+        Calc::Negate(_) => LAST_RANK,
+        Calc::Invert(_) => LAST_RANK,
+        Calc::Min(_) => LAST_RANK,
+        Calc::Max(_) => LAST_RANK,
+        Calc::Clamp(_, _, _) => LAST_RANK,
     }
 }
 
@@ -143,7 +106,7 @@ fn line(alloc: Global, further: Place, children: &[Calc]) -> Result<Vec<Token>, 
 {
     let mut line = Vec::new(alloc);
     let mut started = false;
-    for rank_now in 0..31 {
+    for rank_now in 0..RANKS {
         let (next, begun) = ranked(alloc, further, rank_now, children, line, started)?;
         line = next;
         started = begun;
