@@ -1,11 +1,11 @@
 -- The alpha of a byte is a fraction within bounds.
-use Rattle.std.specs.Prelude.{ℕ, Bool, true, ◌/◌, ◌<◌, ◌≤◌, ◌^◌, ◌&&◌, nat_lt, unsigned_abs, Ok, if◌then◌else◌}
-use Rattle.std.proofs.Common.{◌≡◌, zero, suc, refl, sym, ◌∙◌, ap, ap₂, subst, arith, pos}
+use Rattle.std.specs.Prelude.{ℕ, true, ◌/◌, ◌<◌, ◌≤◌, ◌^◌, ◌&&◌, nat_lt, unsigned_abs, Ok}
+use Rattle.std.proofs.Common.{◌≡◌, refl, sym, subst, arith, pos}
 use Rattle.std.proofs.lemmas.Bool.Decides.{nat_tests}
 use Rattle.cv_ratio.specs.Gcd.{gcd}
 use Rattle.cv_ratio.specs.Cancelled.{unsigned_abs-int_div}
-use Rattle.cv_ratio.specs.Ratio.{Ratio, ratio}
-use Rattle.cv_frac.specs.Bounded.{in_bounds, bounded, of_numbers}
+use Rattle.cv_ratio.specs.Ratio.{ratio}
+use Rattle.cv_frac.specs.Bounded.{of_numbers}
 
 less : (n g : ℕ) → n / g ≤ n
 less n g = grind arith

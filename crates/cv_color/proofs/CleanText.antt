@@ -1,11 +1,10 @@
 -- The text of a colour is clean, by a test that computes.
-use Rattle.std.specs.Prelude.{ℕ, Bool, true, false, not, ◌&&◌, ◌||◌, List, [], ◌∷◌, ◌++◌, codes, decimal, if◌then◌else◌}
+use Rattle.std.specs.Prelude.{ℕ, Bool, true, false, not, ◌&&◌, ◌||◌, List, [], ◌∷◌, ◌++◌, codes, if◌then◌else◌}
 use Rattle.std.proofs.Common.{◌≡◌, refl, sym, ap, subst}
 use Rattle.cv_ratio.specs.Ratio.{Ratio}
 use Rattle.cv_spec_text.specs.Printing.{is_white}
-use Rattle.cv_spec_text.specs.declared.token.Bracket.TheVariants.{Round}
 use Rattle.cv_spec_text.specs.declared.token.Token.{Token}
-use Rattle.cv_spec_text.specs.declared.token.Token.TheVariants.{Function, Number, Comma, White, Close}
+use Rattle.cv_spec_text.specs.declared.token.Token.TheVariants.{Function}
 use Rattle.cv_tokser.specs.Clean.{IsClean, is_bad, begins_white, begins_string, is_url_function}
 use Rattle.cv_calc.specs.declared.unit.Unit.TheVariants as units
 use Rattle.cv_calc.specs.declared.calc.Calc.TheVariants.{Num}

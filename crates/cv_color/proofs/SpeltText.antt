@@ -1,5 +1,5 @@
 -- The tokens of a colour's text are those of texts.
-use Rattle.std.specs.Prelude.{ℕ, zero, suc, Bool, true, false, ◌==◌, ◌&&◌, ◌<◌, ◌^◌, List, [], ◌∷◌, codes, decimal, length, Contains, IsAscii, All, bytes_eq, nat_lt, ◌++◌}
+use Rattle.std.specs.Prelude.{ℕ, zero, suc, Bool, true, false, ◌==◌, ◌&&◌, ◌<◌, List, [], ◌∷◌, codes, decimal, Contains, IsAscii, All, bytes_eq, nat_lt, ◌++◌}
 use Rattle.std.proofs.Common.{◌≡◌, refl, sym, ◌∙◌, ap, subst, arith, lit<}
 use Rattle.std.specs.Fmt.{digits}
 use Rattle.std.proofs.lemmas.Str.{chars-IsAscii, IsUtf8-from_ascii}

@@ -5,7 +5,6 @@ use Rattle.std.proofs.Common.{◌≡◌, refl, ap, arith}
 use Rattle.std.proofs.lemmas.List.Elements.{All-nil, All-cons}
 use Rattle.std.proofs.lemmas.Bool.Decides.{nat_tests}
 use Rattle.cv_spec_text.specs.Keywords.{is_word}
-use Rattle.cv_color.specs.declared.color.Color.{Color}
 use Rattle.cv_color.specs.declared.color.Color.TheVariants.{Current}
 use Rattle.cv_color.specs.Names.{table, coded, opaque, transparent, IsFound}
 

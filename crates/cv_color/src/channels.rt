@@ -1,4 +1,5 @@
-// Colours by their channels.
+//! Colours by their channels.
+
 ghost use Rattle.std.specs.Prelude.{◌≡◌};
 ghost use Rattle.cv_color.specs.Channels.{clamped as clamped_to, channel as channel_of, from_channels as color_of};
 

@@ -1,4 +1,4 @@
-// The colour.
+//! The colour.
 
 use cv_frac::Frac;
 

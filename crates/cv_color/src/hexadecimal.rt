@@ -1,4 +1,5 @@
-// Colours by their hexadecimal digits.
+//! Colours by their hexadecimal digits.
+
 ghost use Rattle.std.specs.Prelude.{◌≡◌, ◌<◌, true, pos};
 ghost use Rattle.std.specs.List.{list_all};
 ghost use Rattle.std.specs.Char.{is_ascii_hexdigit as is_hexadecimal, digit_value};
@@ -72,10 +73,17 @@ fn of_digits(digits: &[u8]) -> Option<Color>
     match digits {
         [r, g, b] => opaque(twice(*r), twice(*g), twice(*b)),
         [r, g, b, a] => with_alpha(twice(*r), twice(*g), twice(*b), twice(*a)),
-        [r, s, g, h, b, c] => opaque(byte(*r, *s), byte(*g, *h), byte(*b, *c)),
-        [r, s, g, h, b, c, a, d] => {
-            with_alpha(byte(*r, *s), byte(*g, *h), byte(*b, *c), byte(*a, *d))
-        }
+        [r_high, r_low, g_high, g_low, b_high, b_low] => opaque(
+            byte(*r_high, *r_low),
+            byte(*g_high, *g_low),
+            byte(*b_high, *b_low),
+        ),
+        [r_high, r_low, g_high, g_low, b_high, b_low, a_high, a_low] => with_alpha(
+            byte(*r_high, *r_low),
+            byte(*g_high, *g_low),
+            byte(*b_high, *b_low),
+            byte(*a_high, *a_low),
+        ),
         _ => None,
     }
 }

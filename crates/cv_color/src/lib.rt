@@ -12,6 +12,6 @@ mod text;
 pub use channels::from_channels;
 pub use color::Color;
 pub use hexadecimal::hex;
-pub use names::named;
+pub use names::{named, names_are_found};
 pub use std::alloc::AllocError as OutOfMemory;
 pub use text::color_tokens;

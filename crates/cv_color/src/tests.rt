@@ -37,6 +37,20 @@ fn names_have_colors(rt: HostRuntime) -> Result<(), Fail> {
     Ok(())
 }
 
+fn is_full_red(color: Option<Color>) -> bool {
+    match color {
+        Some(Color::Rgb { r, g, b, .. }) => r == 255 && g == 0 && b == 0,
+        _ => false,
+    }
+}
+
+#[test]
+fn red_is_full_red(rt: HostRuntime) -> Result<(), Fail> {
+    let name = Name::of(rt.alloc(), "RED")?;
+    assert!(rt; is_full_red(named(&name)));
+    Ok(())
+}
+
 static DIGITS: [(&str, &[u8]); 9] = [
     ("12", b"none"),
     ("1aF", b"rgb(17, 170, 255)"),

@@ -1,4 +1,5 @@
-// The text of a colour.
+//! The text of a colour.
+
 ghost use Rattle.std.specs.Prelude.{◌≡◌, ◌∷◌, [], ◌++◌, All, IfOk, OnOk, IsAscii, codes};
 ghost use Rattle.cv_spec_text.specs.declared.token.Token.{Token};
 ghost use Rattle.cv_spec_text.specs.Splits.{IsSpelt};

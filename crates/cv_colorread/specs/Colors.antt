@@ -9,7 +9,7 @@ use Rattle.cv_component.specs.Blocks.{matching}
 use Rattle.cv_parts.specs.Parts.{is_white, is_comma, is_solidus, parts, filled, trim}
 use Rattle.cv_calc.specs.declared.context.Context.{Context}
 use Rattle.cv_numeric.specs.declared.matched.Matched.{Matched}
-use Rattle.cv_numeric.specs.declared.matched.Matched.TheVariants.{No, Out, Fit}
+use Rattle.cv_numeric.specs.declared.matched.Matched.TheVariants.{No, Fit}
 use Rattle.cv_numeric.specs.Matched.{both, or_else}
 use Rattle.cv_color.specs.declared.color.Color.{Color}
 use Rattle.cv_color.specs.Names.{named}

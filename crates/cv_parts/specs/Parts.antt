@@ -5,7 +5,7 @@ use Rattle.cv_spec_text.specs.Characters.{solidus}
 use Rattle.cv_spec_text.specs.declared.token.Bracket.{Bracket}
 use Rattle.cv_spec_text.specs.declared.token.Token.{Token}
 use Rattle.cv_spec_text.specs.declared.token.Token.TheVariants as token
-use Rattle.cv_component.specs.Nesting.{nesting_after}
+use Rattle.cv_component.specs.Nesting.{nesting_after, completed}
 use Rattle.cv_component.specs.TopLevel.{begins, trim_front, trim_end}
 use Rattle.cv_parts.specs.declared.separator.Separator.{Separator}
 use Rattle.cv_parts.specs.declared.separator.Separator.TheVariants.{White, Comma, Solidus}
@@ -53,6 +53,6 @@ filled (p ∷ ps) = with_filled p (filled ps)
 abbrev pub trim : List Token → List Token
 trim ts = trim_end (trim_front ts)
 
--- whitespace stands at an end
+-- whitespace stands at an end; where brackets are open at the end of the list, which closes them, it stands inside them
 abbrev pub has_white_end : List Token → Bool
-has_white_end ts = begins is_white ts || begins is_white (reverse ts)
+has_white_end ts = begins is_white ts || begins is_white (reverse (completed ts))

@@ -1,7 +1,8 @@
 //! The parts of a list.
 
-ghost use Rattle.std.specs.Prelude.{◌≡◌, ◌≤◌, length, map, IfOk};
-ghost use Rattle.cv_component.specs.TopLevel.{top_length};
+ghost use Rattle.std.specs.Prelude.{◌≡◌, ◌≤◌, [], length, map, reverse, IfOk, IsTrue, ◌↔◌};
+ghost use Rattle.cv_component.specs.Nesting.{nesting_past};
+ghost use Rattle.cv_component.specs.TopLevel.{top_length, begins};
 ghost use Rattle.cv_parts.specs.Parts.{separates as separates_at, is_white, is_comma, parts as parts_of, filled as filled_of, trim as trimmed, has_white_end as is_white_at_end};
 
 use crate::separator::{Separator, separates};
@@ -103,13 +104,45 @@ pub fn comma_parts<'a>(alloc: Global, tokens: &'a [Token]) -> Result<Vec<&'a [To
     trimmed_parts(alloc, all.as_slice())
 }
 
-/// Whether the list begins or ends with whitespace.
-pub fn has_white_end(tokens: &[Token]) -> bool
-    ensures { result ≡ is_white_at_end tokens.now }
+/// Whether no bracket is open at the end of the list.
+fn is_closed(alloc: Global, tokens: &[Token]) -> Result<bool, AllocError>
+    ensures { IfOk result (λ closed. IsTrue closed ↔ (nesting_past [] tokens.now ≡ [])) }
+{
+    let mut nesting = Nesting::new(alloc);
+    for token in tokens {
+        nesting.read(token)?;
+    }
+    Ok(nesting.is_empty())
+}
+
+fn begins_white(tokens: &[Token]) -> bool
+    ensures { result ≡ begins is_white tokens.now }
 {
     match tokens {
         [Token::White, ..] => true,
+        _ => false,
+    }
+}
+
+fn ends_white(tokens: &[Token]) -> bool
+    ensures { result ≡ begins is_white (reverse tokens.now) }
+{
+    match tokens {
         [.., Token::White] => true,
         _ => false,
+    }
+}
+
+/// Whether the list begins with whitespace, or ends with it where no bracket is open: `a ` does, and `calc(1px ` doesn't.
+pub fn has_white_end(alloc: Global, tokens: &[Token]) -> Result<bool, AllocError>
+    ensures { IfOk result (λ white. white ≡ is_white_at_end tokens.now) }
+{
+    if begins_white(tokens) {
+        return Ok(true);
+    }
+    if ends_white(tokens) {
+        is_closed(alloc, tokens)
+    } else {
+        Ok(false)
     }
 }

@@ -25,7 +25,7 @@ abbrev pub each : Kind → Context → List (List Token) → Matched (List Item)
 each k x [] = No
 each k x (p ∷ ps) = all_of (map (item k x) (p ∷ ps))
 
--- a list of items has no whitespace at its ends
+-- a list of items has no whitespace at its ends, but inside a function that is open at its end
 abbrev pub listed : Kind → Context → List Token → List (List Token) → Matched (List Item)
 listed k x ts ps = if has_white_end ts then No else each k x ps
 

@@ -63,7 +63,7 @@ pub(crate) fn spaced(
 ) -> Result<Matched<Items<Item>>, AllocError>
     ensures { IfOk result (λ o. o ≡ matching.listed kind.now x.now tokens.now (filled (parts_of is_white tokens.now))) }
 {
-    if has_white_end(tokens) {
+    if has_white_end(alloc, tokens)? {
         return Ok(Matched::No);
     }
     let parts = spaced_parts(alloc, tokens)?;
@@ -79,7 +79,7 @@ pub(crate) fn with_commas(
 ) -> Result<Matched<Items<Item>>, AllocError>
     ensures { IfOk result (λ o. o ≡ matching.listed kind.now x.now tokens.now (map trim (parts_of is_comma tokens.now))) }
 {
-    if has_white_end(tokens) {
+    if has_white_end(alloc, tokens)? {
         return Ok(Matched::No);
     }
     let parts = comma_parts(alloc, tokens)?;

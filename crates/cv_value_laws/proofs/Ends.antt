@@ -1,6 +1,6 @@
 -- Lists that begin and end with a token that isn't whitespace.
-use Rattle.std.specs.Prelude.{◌≡◌, Bool, false, ◌||◌, List, [], ◌∷◌, ◌++◌, reverse}
-use Rattle.std.proofs.Common.{refl, sym, ◌∙◌, ap, ap₂, append_assoc}
+use Rattle.std.specs.Prelude.{◌≡◌, false, List, [], ◌∷◌, ◌++◌, reverse}
+use Rattle.std.proofs.Common.{refl, sym, ◌∙◌, ap, append_assoc}
 use Rattle.std.proofs.lemmas.List.{reverse-append, reverse-reverse}
 use Rattle.cv_spec_text.specs.declared.token.Bracket.{Bracket}
 use Rattle.cv_spec_text.specs.declared.token.Token.{Token}
@@ -8,6 +8,7 @@ use Rattle.cv_spec_text.specs.declared.token.Token.TheVariants.{White, Close}
 use Rattle.cv_component.specs.TopLevel.{begins, trim_front}
 use Rattle.cv_component.specs.Balance.{IsBlock, ends, plain, block}
 use Rattle.cv_parts.specs.Parts.{is_white, trim, has_white_end}
+use Rattle.cv_parts.proofs.Ends.{full_end}
 use Rattle.cv_value_laws.specs.Entries.{IsComponentValue, preserved, block as whole_block, IsEntry}
 
 -- the last token isn't whitespace
@@ -47,4 +48,4 @@ trim_kept ts h e =
     ap (λ (us : List Token). reverse (trim_front (reverse us))) (front_kept ts h) ∙ ap reverse (front_kept (reverse ts) (no_white_last ts e)) ∙ reverse-reverse ts
 
 pub no_white_ends : (ts : List Token) → begins is_white ts ≡ false → EndsFull ts → has_white_end ts ≡ false
-no_white_ends ts h e = ap₂ (λ (a b : Bool). a || b) h (no_white_last ts e)
+no_white_ends ts h e = sym (full_end ts h (no_white_last ts e))

@@ -1,14 +1,14 @@
 -- Typed values read back, lists among them.
-use Rattle.std.specs.Prelude.{ℕ, suc, Bool, true, false, ◌≤◌, nat_lt, List, [], ◌∷◌, map, if◌then◌else◌}
-use Rattle.std.specs.List.{Contains}
+use Rattle.std.specs.Prelude.{ℕ, Bool, true, false, ◌≤◌, nat_lt, List, [], ◌∷◌, map, if◌then◌else◌}
 use Rattle.std.proofs.Common.{◌≡◌, refl, sym, ◌∙◌, ap, ap₂, subst, arith}
 use Rattle.std.proofs.lemmas.Bool.Decides.{nat_tests}
+use Rattle.std.proofs.lemmas.List.Elements.{All-nil, All-cons}
 use Rattle.cv_spec_text.specs.declared.token.Token.{Token}
 use Rattle.cv_component.specs.Nesting.{depth}
 use Rattle.cv_parts.specs.Parts.{is_white, is_comma, parts, filled, trim, has_white_end}
 use Rattle.cv_calc.specs.declared.context.Context.{Context}
 use Rattle.cv_numeric.specs.declared.matched.Matched.{Matched}
-use Rattle.cv_numeric.specs.declared.matched.Matched.TheVariants.{No, Fit}
+use Rattle.cv_numeric.specs.declared.matched.Matched.TheVariants.{No, Out, Fit}
 use Rattle.cv_numeric.specs.Matched.{mapped, both, all_of, or_else}
 use Rattle.cv_syntax.specs.declared.syntax.Kind.{Kind}
 use Rattle.cv_syntax.specs.declared.syntax.Many.{Many}
@@ -119,21 +119,30 @@ component_back k x y ts v h shallow =
       same = b.same;
     }
 
-here : (c : Component) (cs : List Component) → Contains (c ∷ cs) c
-here c cs = (0, omega arith, refl)
+-- the first that fits, and no match before it
+first_fits : {A : Type 0} (P : A → Type 0) (m o : Matched A) (a : A) → (m ≡ Fit a → P a) → (m ≡ No → o ≡ Fit a → P a) → or_else m o ≡ Fit a → P a
+first_fits P No o a f g h = g refl h
+first_fits P Out o a f g h = absurd cc
+first_fits P (Fit b) o a f g h = f h
 
-there : (c d : Component) (cs : List Component) → Contains cs d → Contains (c ∷ cs) d
-there c d cs (n, within, is) = (suc n, omega (arith, within), is)
+here : (c : Component) (cs : List Component) (x : Context) (ts : List Token) (v : Typed) → component x ts c ≡ Fit v → Gives (c ∷ cs) x ts v
+here c cs x ts v h = record { before = []; by = c; after = cs; are = refl; first = All-nil (λ (d : Component). component x ts d ≡ No); gives = h }
 
-further : (c : Component) (cs : List Component) (x : Context) (ts : List Token) (v : Typed) → Gives cs x ts v → Gives (c ∷ cs) x ts v
-further c cs x ts v g = record { by = g.by; one_of = there c g.by cs g.one_of; gives = g.gives }
+further : (c : Component) (cs : List Component) (x : Context) (ts : List Token) (v : Typed) → component x ts c ≡ No → Gives cs x ts v → Gives (c ∷ cs) x ts v
+further c cs x ts v refused g = record {
+  before = c ∷ g.before;
+  by = g.by;
+  after = g.after;
+  are = ap (λ (ds : List Component). c ∷ ds) g.are;
+  first = All-cons (λ (d : Component). component x ts d ≡ No) c g.before refused g.first;
+  gives = g.gives;
+}
 
 components_given : (cs : List Component) (x : Context) (ts : List Token) (v : Typed) → components x ts cs ≡ Fit v → Gives cs x ts v
 components_given [] x ts v h = absurd cc
 components_given (c ∷ cs) x ts v h =
-    either_fits (Gives (c ∷ cs) x ts) (component x ts c) (components x ts cs) v
-    (λ k. record { by = c; one_of = here c cs; gives = k })
-    (λ k. further c cs x ts v (components_given cs x ts v k)) h
+    first_fits (Gives (c ∷ cs) x ts) (component x ts c) (components x ts cs) v (here c cs x ts v)
+    (λ refused k. further c cs x ts v refused (components_given cs x ts v k)) h
 
 syntax_given : (cs : List Component) (x : Context) (ts : List Token) (v : Typed) → matching (Of cs) x ts ≡ Fit v → components x ts cs ≡ Fit v
 unfolding matching

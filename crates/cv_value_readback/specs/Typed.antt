@@ -1,12 +1,11 @@
 -- The text of a typed value reads back as an equal value, by the component that gave the value (CSSOM, "Serializing CSS Values"; CSS
 -- Properties and Values API 1, "Syntax Strings"). The component alone is asked: under `<length> | <number>` the list `calc(0)` is the
 -- number 0, and its text `0` would be a length. That a text is nested at most 128 deep is this project's own, as matching has it.
-use Rattle.std.specs.Prelude.{◌≡◌, ◌≤◌, List, [], ◌∷◌}
-use Rattle.std.specs.List.{Contains}
+use Rattle.std.specs.Prelude.{◌≡◌, ◌≤◌, List, [], ◌∷◌, ◌++◌, All}
 use Rattle.cv_spec_text.specs.declared.token.Token.{Token}
 use Rattle.cv_component.specs.Nesting.{depth}
 use Rattle.cv_calc.specs.declared.context.Context.{Context}
-use Rattle.cv_numeric.specs.declared.matched.Matched.TheVariants.{Fit}
+use Rattle.cv_numeric.specs.declared.matched.Matched.TheVariants.{No, Fit}
 use Rattle.cv_syntax.specs.declared.syntax.Component.{Component}
 use Rattle.cv_syntax.specs.declared.syntax.Syntax.{Syntax}
 use Rattle.cv_syntax.specs.declared.syntax.Syntax.TheVariants.{Of}
@@ -40,16 +39,19 @@ pub record TextReadsBack (s : Syntax) (y : Context) (v : Typed) : Type 0 where
   pub read : matching s y (typed_text v) ≡ Fit back
   pub same : SameTyped v back
 
--- a component of a syntax gives the value
+-- a component of a syntax gives the value, and the list matches none before it
 pub record Gives (cs : List Component) (x : Context) (ts : List Token) (v : Typed) : Type 0 where
+  pub before : List Component
   pub by : Component
-  pub one_of : Contains cs by
+  pub after : List Component
+  pub are : cs ≡ before ++ by ∷ after
+  pub first : All (λ (c : Component). component x ts c ≡ No) before
   pub gives : component x ts by ≡ Fit v
 
 pub record TypedValuesReadBack : Type 0 where
   -- what a component gives reads back by that component alone, in every context
   pub of_component : (k : Component) (x y : Context) (ts : List Token) (v : Typed) → component x ts k ≡ Fit v → depth (typed_text v) ≤ 128 → TextReadsBack (alone k) y v
-  -- what matches a syntax is given by a component of it
+  -- what matches a syntax is given by its first component that the list matches
   pub given_by : (cs : List Component) (x : Context) (ts : List Token) (v : Typed) → matching (Of cs) x ts ≡ Fit v → Gives cs x ts v
   -- so where a syntax has one component, to substitute the text of a value is to substitute its value
   pub of_syntax : (k : Component) (x y : Context) (ts : List Token) (v : Typed) → matching (alone k) x ts ≡ Fit v → depth (typed_text v) ≤ 128 → TextReadsBack (alone k) y v
