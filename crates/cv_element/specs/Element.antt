@@ -40,7 +40,7 @@ abbrev pub pieces_in : Option Decl → Option (Pieces Key Token)
 pieces_in None = None
 pieces_in (Some declaration) = Some (keyed (pieces_of declaration.value))
 
--- the declarations that won, by key, under this limit (Cascading Variables 1, "Long Variables")
+-- the declarations that won, by key, under this limit (Cascading Variables 1, "Safely Handling Overly-Long Variables")
 abbrev pub declared_in : winners.Declarations → ℕ → Declarations Key Token
 declared_in decls most = record {
   names = keys_of decls;
