@@ -7,7 +7,7 @@ use Rattle.cv_cycle.specs.Marks.{IsMarked, StandsIn}
 use Rattle.cv_cycle.specs.State.{State, shortened, Copies, written, cut, asked, Cuts, Closes, Leaves}
 use Rattle.cv_cycle.specs.Search.{StandsFrom, IsWalk, IsTarget, IsSearch}
 use Rattle.cv_cycle.proofs.Places.{StandsIn-shorter, Rises-fewer}
-use Rattle.cv_cycle.proofs.Components.{IsWalk-leave, IsWalk-close}
+use Rattle.cv_cycle.proofs.Closing.{IsWalk-leave, IsWalk-close}
 use Rattle.cv_cycle.proofs.Readings.{IsWalk-renamed}
 use Rattle.cv_cycle.proofs.Ordering.{IsOrdered-close}
 use Rattle.cv_cycle.proofs.Top.{top, node, place, reads_now, reads_then, top_below, top_highest, is_top, some_start, reads_other, unread_then, few_then, reads_length, all_asked}

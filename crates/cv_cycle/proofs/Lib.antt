@@ -2,6 +2,7 @@ pub mod Marking
 pub mod Reached
 pub mod Places
 pub mod Components
+pub mod Closing
 pub mod Readings
 pub mod Top
 pub mod Following

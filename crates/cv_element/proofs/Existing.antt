@@ -25,6 +25,7 @@ use Rattle.cv_element.specs.FaultNames.{named, fault_of}
 use Rattle.cv_element.specs.Settling.{start_of}
 use Rattle.cv_element.proofs.Ending.{starts}
 use Rattle.cv_element.proofs.Ranking.{ranked, ranked_is_sorted, ranked_permutes}
+use Rattle.cv_element.proofs.Reported.{all_told}
 use Rattle.cv_element.proofs.SameKeys.{same_or_not}
 use Rattle.cv_element.proofs.Sorting.{same, ordered, once-permutation, told-permutation}
 
@@ -235,6 +236,9 @@ module _ (decls : Declarations) (parent : Option Values) (most : ℕ) (found : P
             (t.told key cause).1 (listed key (declared key (cause_of cause) before), before)),
       )
 
+      faults_sorted : (key : Key) (cause : Reported) → Contains sorted (key, cause) ↔ IsInvalid element (values_of (filled keys)) key (cause_of cause)
+      faults_sorted = told-permutation {P = λ key cause. IsInvalid element (values_of (filled keys)) key (cause_of cause)} t.faults sorted (same t.faults (ranked (map named t.faults)) (ranked_permutes (map named t.faults))) told_all
+
       pub existing : Computed
       existing = record { values = filled keys; faults = sorted }
 
@@ -242,7 +246,8 @@ module _ (decls : Declarations) (parent : Option Values) (most : ℕ) (found : P
       unfolding existing
       existing_is_computed = record {
         solves = subst (IsValuation element) (sym (values_are keys listed)) solves;
-        faults = told-permutation {P = λ key cause. IsInvalid element (values_of (filled keys)) key (cause_of cause)} t.faults sorted (same t.faults (ranked (map named t.faults)) (ranked_permutes (map named t.faults))) told_all;
+        faults = faults_sorted;
+        told = all_told decls parent most (values_of (filled keys)) sorted faults_sorted;
         once = once-permutation t.faults sorted (same t.faults (ranked (map named t.faults)) (ranked_permutes (map named t.faults))) t.once;
         ordered = ordered t.faults (ranked (map named t.faults)) (ranked_permutes (map named t.faults)) (ranked_is_sorted (map named t.faults));
       }

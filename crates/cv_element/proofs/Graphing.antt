@@ -1,12 +1,12 @@
 -- The edges of one declared name, one reference after another, and the graph as a numbering of the declared names.
 use Rattle.std.proofs.Common.{◌≡◌, ◌≢◌, ℕ, ◌+◌, ◌<◌, ◌≤◌, ◌↔◌, zero-le, Bool, true, false, List, [], ◌∷◌, ◌++◌, length, take, get_or, Option, Some, inl, inr, refl, sym, ◌∙◌, ap, subst, arith}
-use Rattle.std.specs.Prelude.{Contains, IsSome, bytes_eq}
+use Rattle.std.specs.Prelude.{Contains, IsSome, bytes_eq, eqb}
 use Rattle.std.specs.List.{IsDistinct, list_any, position}
 use Rattle.std.proofs.lemmas.List.Quantifiers.{position-Some}
 use Rattle.std.specs.Cmp.Lexicographic.{nat_list_eq_equiv}
 use Rattle.std.proofs.Math.Seq.{take-length}
 use Rattle.std.proofs.lemmas.Bool.{cases_lt, cases_eq}
-use Rattle.std.proofs.lemmas.List.{get_or_default, get_or_past, take_more, length_push}
+use Rattle.std.proofs.lemmas.List.{get_or_default, get_or_past, get_or-take, length-take-le, take_more, length_push}
 use Rattle.std.proofs.lemmas.List.Elements.{Contains-push, Contains-push_cases, Contains-append_left, Contains-get_or}
 use Rattle.std.proofs.lemmas.Map.Made.{AllPairs-from_IsDistinct}
 use Rattle.std.proofs.lemmas.Map.Views.{list_any-from_Contains}
@@ -28,6 +28,7 @@ use Rattle.cv_props.specs.Winners.{Declarations, declaration_of}
 use Rattle.cv_element.specs.Element.{pieces_in, the_element}
 use Rattle.cv_element.specs.Names.{name_at, Connects, IsNumbered, IsReference}
 use Rattle.cv_element.specs.Settling.{IsPlan}
+use Rattle.cv_element.proofs.Counting.{once-push}
 use Rattle.cv_element.proofs.Keying.{RefersTo-keyed, keyed-RefersTo}
 use Rattle.cv_element.proofs.Stepping.{pieces_in-some}
 use Rattle.cv_element.proofs.Ending.{some_declared}
@@ -97,11 +98,32 @@ module _ (keys references : List (List ℕ)) (place : ℕ) (below : place < leng
   connects_few (inl (to, within, named, is)) few = omega (arith, few, ap (λ l. length l) is ∙ length_push row to)
   connects_few (inr (none, is)) few = omega (arith, few, ap (λ l. length l) is)
 
+  -- no number of the row is that of the reference
+  pub unmet : IsDistinct bytes_eq references → (x : ℕ) → Contains row x → name_at keys x ≢ ref
+  unmet distinct x has same =
+      let found = ((before x).0 has).refers in
+      let early : found.0 < place = omega (arith, found.1, length-take-le place references (omega (arith, below))) in
+      let earlier : get_or references found.0 [] ≡ ref = sym (get_or-take place references found.0 [] early) ∙ get_or_default (take place references) found.0 [] (name_at keys x) found.1 ∙ found.2 ∙ same in
+      let clash : found.0 ≡ place = apart references distinct found.0 place (omega (arith, early, below)) below (earlier ∙ ref_is) in
+      omega (arith, early, clash)
+
+  pub connects_once : IsDistinct bytes_eq references → Connects keys ref row row' → IsDistinct eqb row → IsDistinct eqb row'
+  connects_once distinct (inl (to, within, named, is)) once =
+      subst (IsDistinct eqb) (sym is) (once-push row to once (λ has. unmet distinct to has (sym named)))
+  connects_once distinct (inr (none, is)) once = subst (IsDistinct eqb) (sym is) once
+
 -- a reference that is found stands there
 pub found_at : (keys : List (List ℕ)) (ref : List ℕ) (to : ℕ) → position (bytes_eq ref) keys ≡ Some to → (to < length keys) × (ref ≡ name_at keys to)
 found_at keys ref to is =
     let at = position-Some (bytes_eq ref) keys to [] is in
     (at.0, (bytes_eq-Decides ref (name_at keys to)).0 at.1)
+
+-- before the first reference
+pub none_connected : (keys : List (List ℕ)) (row : List ℕ) → row ≡ [] → (x : ℕ) → Contains row x ↔ IsNumbered keys [] x
+none_connected keys row none x = (
+  (λ has. absurd (omega (arith, has.1, ap (λ (l : List ℕ). length l) none))),
+  (λ number. absurd (omega (arith, number.refers.1))),
+)
 
 pub all_connected : (keys references : List (List ℕ)) (place : ℕ) → place ≡ length references → (row : List ℕ) → ((x : ℕ) → Contains row x ↔ IsNumbered keys (take place references) x) → (x : ℕ) → Contains row x ↔ IsNumbered keys references x
 all_connected keys references place whole row edges x =
@@ -126,6 +148,14 @@ module _ (decls : Declarations) (names : List (List ℕ)) (rows rows' : List (Li
       elim (cases_eq from number) [
         | inl same ↦ subst (λ n. HasEdge rows' n to ↔ IsReference decls names n to) (sym same) (edges to)
         | inr different ↦ subst (λ r. Contains r to ↔ IsReference decls names from to) (sym (others from different)) (old from to (omega (arith, below, different)))
+      ]
+
+  -- what bounds each row bounds that of one more number
+  pub rows_few : (most : ℕ → ℕ) → length (targets rows' number) ≤ most number → ((node : ℕ) → node ≢ number → targets rows' node ≡ targets rows node) → ((from : ℕ) → from < number → length (targets rows from) ≤ most from) → (from : ℕ) → from < number + 1 → length (targets rows' from) ≤ most from
+  rows_few most few others old from below =
+      elim (cases_eq from number) [
+        | inl same ↦ subst (λ n. length (targets rows' n) ≤ most n) (sym same) few
+        | inr different ↦ omega (arith, ap (λ (row : List ℕ). length row) (others from different), old from (omega (arith, below, different)))
       ]
 
 pub rows_none : (rows rows' : List (List ℕ)) (number : ℕ) → ((node : ℕ) → node ≢ number → targets rows' node ≡ targets rows node) → ((from : ℕ) → number ≤ from → targets rows from ≡ []) → (from : ℕ) → number + 1 ≤ from → targets rows' from ≡ []

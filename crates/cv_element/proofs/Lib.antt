@@ -7,6 +7,7 @@ pub mod Stepping
 pub mod Keeping
 pub mod Ending
 pub mod Loading
+pub mod Counting
 pub mod Graphing
 pub mod Naming
 pub mod Whole
@@ -14,5 +15,6 @@ pub mod Result
 pub mod Sorting
 pub mod Inherited
 pub mod Ranking
+pub mod Reported
 pub mod Existing
 pub mod Single

@@ -1,8 +1,9 @@
 -- The declared names, one declaration after another.
-use Rattle.std.proofs.Common.{◌≡◌, ℕ, ◌+◌, ◌<◌, List, [], ◌∷◌, ◌++◌, length, zero, suc, Option, Some, None, ◌⊎◌, inl, inr, Bool, true, false, cond, refl, sym, ◌∙◌, ap, subst, arith}
+use Rattle.std.proofs.Common.{◌≡◌, ℕ, ◌+◌, ◌<◌, ◌≤◌, List, [], ◌∷◌, ◌++◌, length, zero, suc, Option, Some, None, ◌⊎◌, inl, inr, Bool, true, false, cond, refl, sym, ◌∙◌, ap, subst, arith}
 use Rattle.std.specs.Prelude.{Contains, IsSome, slice_get, bytes_eq}
 use Rattle.std.specs.List.{list_any}
 use Rattle.std.proofs.lemmas.Bool.{cases_lt}
+use Rattle.std.proofs.lemmas.List.{length_push}
 use Rattle.std.proofs.lemmas.List.Elements.{Contains-push, Contains-push_cases, Contains-append_left}
 use Rattle.std.proofs.lemmas.Map.Views.{Contains-from_any, Contains-from_lookup}
 use Rattle.std.proofs.lemmas.Map.Entries.{lookup_head, lookup_tail}
@@ -35,6 +36,13 @@ module _ (names : List (List ℕ)) (name : List ℕ) where
       by : (b : Bool) → Contains (cond b names (names ++ name ∷ [])) other
       by true = has
       by false = Contains-append_left names (name ∷ []) other has
+
+  pub insert-few : length (insert_key bytes_eq names name) ≤ length names + 1
+  insert-few = by (list_any (bytes_eq name) names)
+    where
+      by : (b : Bool) → length (cond b names (names ++ name ∷ [])) ≤ length names + 1
+      by true = omega arith
+      by false = omega (arith, length_push names name)
 
   pub insert-only : (other : List ℕ) → Contains (insert_key bytes_eq names name) other → Contains names other ⊎ (Custom other ≡ Custom name)
   insert-only other has = by (list_any (bytes_eq name) names) has

@@ -1,5 +1,5 @@
 -- Each list of faults with names has a sorted permutation.
-use Rattle.std.proofs.Common.{◌≡◌, ℕ, zero, suc, ◌+◌, ◌<◌, Bool, true, false, cond, List, [], ◌∷◌, length, get_or, IsPermutation, IsSortedBy, refl, sym, subst, arith}
+use Rattle.std.proofs.Common.{◌≡◌, ℕ, zero, suc, ◌+◌, ◌<◌, Bool, true, false, cond, List, [], ◌∷◌, length, get_or, IsPermutation, IsSortedBy, refl, subst, arith}
 use Rattle.std.proofs.lemmas.List.Sorted.{IsPermutation-refl, IsPermutation-sym, IsPermutation-trans, IsPermutation-cons, IsPermutation-middle}
 use Rattle.cv_element.specs.declared.faults.Named.{Named}
 use Rattle.cv_element.proofs.Sorting.{before, before_ranks}

@@ -1,5 +1,5 @@
 -- One element whose declared properties are unregistered names, and what is computed of it.
-use Rattle.std.specs.Prelude.{ℕ, ◌≡◌, ◌≢◌, ◌+◌, ◌<◌, ◌≤◌, ◌↔◌, Bool, true, false, if◌then◌else◌, List, length, codes, Option, Some, None, Contains, slice_get}
+use Rattle.std.specs.Prelude.{ℕ, ◌≡◌, ◌≢◌, ◌<◌, ◌↔◌, Bool, true, false, if◌then◌else◌, List, codes, Option, Some, None, Contains, slice_get}
 use Rattle.std.specs.Ordering.{nat_cmp}
 use Rattle.std.specs.declared.cmp.Ordering.TheVariants.{Greater}
 use Rattle.std.specs.Cmp.Lexicographic.{slice_cmp}
@@ -13,8 +13,6 @@ use Rattle.cv_spec_element.specs.Keywords.{Keyword, initial, inherit, unset, rev
 use Rattle.cv_spec_element.specs.Element.{Outcome, tokens, invalid, Declarations, Element}
 use Rattle.cv_spec_element.specs.Loose.{loose_element}
 use Rattle.cv_spec_element.specs.Valuation.{Cause, cycle, missing, limit, IsInvalid, IsValuation}
-use Rattle.cv_spec_element.specs.Numbering.{IsNumbering}
-use Rattle.cv_graph.specs.Edges.{edge_count}
 use Rattle.cv_var.specs.References.{pieces_of}
 use Rattle.cv_props.specs.declared.computed.Cause.{Cause as Reported}
 use Rattle.cv_props.specs.declared.computed.Cause.TheVariants as reported
@@ -42,7 +40,7 @@ abbrev pub pieces_in : Option Decl → Option (Pieces Key Token)
 pieces_in None = None
 pieces_in (Some declaration) = Some (keyed (pieces_of declaration.value))
 
--- the declarations that won, by key, under this limit (Cascading Variables 1, "Long Variables")
+-- the declarations that won, by key, under this limit (Cascading Variables 1, "Safely Handling Overly-Long Variables")
 abbrev pub declared_in : winners.Declarations → ℕ → Declarations Key Token
 declared_in decls most = record {
   names = keys_of decls;
@@ -111,19 +109,17 @@ IsOnce faults = (i j : ℕ) (key : Key) (one other : Reported) → slice_get fau
 abbrev pub IsByName : Faults → Type 0
 IsByName faults = (i j : ℕ) (first second : Key) (one other : Reported) → i < j → slice_get faults i ≡ Some (first, one) → slice_get faults j ≡ Some (second, other) → slice_cmp nat_cmp (key_text first) (key_text second) ≢ Greater
 
+-- the cause is in the list, with this key
+abbrev pub IsReported : Faults → Key → Cause Key → Type 0
+IsReported faults key cause = (told : Reported) × (cause_of told ≡ cause) × Contains faults (key, told)
+
 -- what is computed of an element
 pub record IsComputed (decls : winners.Declarations) (parent : Option Values) (most : ℕ) (computed : Computed) : Type 0 where
   -- the values solve the equations
   pub solves : IsValuation (the_element decls parent most) (values_of computed.values)
   -- the list tells which properties are invalid at computed-value time, and why
   pub faults : (key : Key) (cause : Reported) → Contains computed.faults (key, cause) ↔ IsInvalid (the_element decls parent most) (values_of computed.values) key (cause_of cause)
+  -- it leaves none out
+  pub told : (key : Key) (cause : Cause Key) → IsInvalid (the_element decls parent most) (values_of computed.values) key cause → IsReported computed.faults key cause
   pub once : IsOnce computed.faults
   pub ordered : IsByName computed.faults
-
--- The steps are at most the edges and nodes of a graph whose nodes are the declared names and whose edges are the references
--- among them.
-pub record CountsReferences (decls : winners.Declarations) (parent : Option Values) (most : ℕ) (before after : ℕ) : Type 0 where
-  pub name : ℕ → Key
-  pub rows : List (List ℕ)
-  pub numbering : IsNumbering (the_element decls parent most) name rows
-  pub bound : after ≤ before + (edge_count rows + length rows)

@@ -1,5 +1,6 @@
 pub mod Element
 pub mod Names
+pub mod Counting
 pub mod Answers
 pub mod Settling
 pub mod FaultNames

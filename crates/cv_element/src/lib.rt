@@ -6,6 +6,7 @@ mod faults;
 mod graph;
 mod laws;
 mod names;
+mod planning;
 mod refusal;
 mod settling;
 #[cfg(test)]

@@ -1,5 +1,5 @@
 // The declared names, which are the nodes of an element's graph.
-ghost use Rattle.std.specs.Prelude.{◌≡◌, ◌⊎◌, ◌<◌, ◌≤◌, ℕ, true, List, Contains, IsSome, length, bytes_eq, IfOk, OnOk};
+ghost use Rattle.std.specs.Prelude.{◌≡◌, ◌⊎◌, ◌<◌, ◌≤◌, ◌+◌, ℕ, true, List, Contains, IsSome, length, bytes_eq, IfOk, OnOk};
 ghost use Rattle.std.specs.List.{IsDistinct};
 ghost use Rattle.cv_spec_text.specs.Keywords.{is_custom};
 ghost use Rattle.cv_props.specs.Winners.{declaration_of};
@@ -11,21 +11,7 @@ ghost use Rattle.cv_element.specs.Names.{name_at};
 use cv_props::{Decls, Key, properties_are_found};
 use cv_spec_text::{Name, OutOfMemory};
 use indexmap::IndexSet;
-use std::alloc::{AllocError, Global};
-
-/// The most nodes of a graph, and the most edges of one node.
-const MOST: usize = 4294967287;
-
-/// The count as a number of nodes or edges. More than a graph takes are refused: they want more memory than there is.
-pub fn counted(count: usize) -> Result<u32, OutOfMemory>
-    ensures same { IfOk result (λ number. number ≡ count) }
-    ensures few { IfOk result (λ number. number ≤ 4294967287) }
-{
-    if count > MOST {
-        return Err(AllocError);
-    }
-    Ok(count as u32)
-}
+use std::alloc::Global;
 
 fn add_name(names: &mut IndexSet<Name>, key: &Key) -> Result<(), OutOfMemory>
     requires custom { is_custom_key key.now ≡ true }
@@ -33,6 +19,7 @@ fn add_name(names: &mut IndexSet<Name>, key: &Key) -> Result<(), OutOfMemory>
     ensures kept { OnOk result ((name : List ℕ) → Contains names.old.keys name → Contains names.new.keys name) }
     ensures only { OnOk result ((name : List ℕ) → Contains names.new.keys name → Contains names.old.keys name ⊎ (Custom name ≡ key.now)) }
     ensures once { OnOk result (IsDistinct bytes_eq names.new.keys) }
+    ensures few { OnOk result (length names.new.keys ≤ length names.old.keys + 1) }
 {
     match key {
         Key::Custom(name) => {
@@ -49,6 +36,7 @@ pub fn declared_names(alloc: Global, decls: &Decls) -> Result<IndexSet<Name>, Ou
     ensures declared { IfOk result (λ names. (name : List ℕ) → Contains names.keys name → IsSome (declaration_of decls.now (Custom name))) }
     ensures custom { IfOk result (λ names. (name : List ℕ) → Contains names.keys name → is_custom name ≡ true) }
     ensures once { IfOk result (λ names. IsDistinct bytes_eq names.keys) }
+    ensures few { IfOk result (λ names. length names.keys ≤ length decls.now) }
 {
     properties_are_found();
     let mut names = IndexSet::new(alloc);

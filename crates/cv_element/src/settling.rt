@@ -91,8 +91,7 @@ fn answer_loaded(
     ensures more { OnOk result ((name : List ℕ) → (value_in runs.new name ≡ value_in runs.old name) ⊎ RefersTo (pieces_of declared.now) name) }
 {
     load_references(declared, values, runs)?;
-    let found = answer(alloc, declared, runs, limit)?;
-    Ok(found)
+    answer(alloc, declared, runs, limit)
 }
 
 // What the declaration gives; on a cycle nothing is looked up.
@@ -114,8 +113,7 @@ fn answer_for(
     if is_cyclic {
         return Ok(Err(Cause::Cycle));
     }
-    let found = answer_loaded(alloc, declared, limit, values, runs)?;
-    Ok(found)
+    answer_loaded(alloc, declared, limit, values, runs)
 }
 
 // The name has what the list gives.

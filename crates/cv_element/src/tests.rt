@@ -1,5 +1,5 @@
 // The order of an element's faults.
-ghost use Rattle.std.specs.Prelude.{◌≡◌, ◌<◌};
+ghost use Rattle.std.specs.Prelude.{◌≡◌, ◌<◌, ◌≤◌, length};
 
 use crate::{Place, element};
 use cv_graph::Steps;
@@ -44,6 +44,9 @@ fn computed(alloc: Global, style: &str) -> Result<Option<Computed>, AllocError> 
     let Some(decls) = declarations(alloc, style)? else {
         return Ok(None);
     };
+    if decls.len() > 1000 {
+        return Ok(None);
+    }
     let computed = computed_counting::<Brand>(alloc, &registry, &decls, Blank::new(1));
     Ok(computed)
 }
@@ -58,6 +61,7 @@ fn computed_counting<L: Ledger>(
     requires name { blank.name ≡ L.name }
     requires parts { blank.parts ≡ L.parts }
     requires some { 0 < blank.parts }
+    requires few { length decls.now ≤ 1000 }
 {
     let mut steps: Steps<L> = Steps::new(blank);
     let place = Place {

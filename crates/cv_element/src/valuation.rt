@@ -1,25 +1,27 @@
 // The values of an element.
-ghost use Rattle.std.specs.Prelude.{◌≡◌, ◌↔◌, ◌<◌, ◌≤◌, ℕ, List, [], None, length, true, Contains, IsSome, IfOk, IfSome, OnOk};
+ghost use Rattle.std.specs.Prelude.{◌≡◌, ◌↔◌, ◌<◌, ◌≤◌, ◌+◌, ℕ, List, [], None, length, true, Contains, IsSome, IfOk, IfSome, OnOk};
 ghost use Rattle.std.specs.Option.{option_copied};
 ghost use Rattle.cv_spec_text.specs.Keywords.{is_custom};
 ghost use Rattle.cv_spec_text.specs.declared.token.Token.{Token};
 ghost use Rattle.cv_spec_element.specs.Element.{Outcome};
-ghost use Rattle.cv_spec_element.specs.Valuation.{IsInvalid, IsValuation};
+ghost use Rattle.cv_spec_element.specs.Valuation.{Cause, IsInvalid, IsValuation};
+ghost use Rattle.cv_graph.specs.Edges.{most_targets};
 ghost use Rattle.cv_subst.specs.Values.{value_in};
 ghost use Rattle.cv_props.specs.declared.computed.Cause.{Cause as Reported};
 ghost use Rattle.cv_props.specs.declared.key.Key.{Key};
 ghost use Rattle.cv_props.specs.declared.key.Key.TheVariants.{Custom};
 ghost use Rattle.cv_props.specs.Winners.{declaration_of};
-ghost use Rattle.cv_element.specs.Element.{the_element, values_of, cause_of, AreKept, ParentIsKept, IsOnce, IsByName, IsComputed, CountsReferences};
+ghost use Rattle.cv_element.specs.Element.{the_element, values_of, cause_of, AreKept, ParentIsKept, IsOnce, IsByName, IsReported, IsComputed};
+ghost use Rattle.cv_element.specs.Counting.{reference_count};
 ghost use Rattle.cv_element.specs.Names.{name_at};
 ghost use Rattle.cv_element.specs.Settling.{start_of, IsLoaded, Settles, IsPlan, IsSettling};
 
 use crate::faults::by_name;
-use crate::graph::references;
-use crate::names::{declared_names, key_at};
+use crate::names::key_at;
+use crate::planning::{Plan, planned};
 use crate::refusal::ElemErr;
 use crate::settling::{Settling, settle};
-use cv_cycle::{Order, ordered};
+use cv_cycle::Order;
 use cv_graph::Steps;
 use cv_props::{
     Computed, Decls, Key, Registry, Valuation, outcomes_are_by_key, properties_are_found,
@@ -122,8 +124,45 @@ fn settle_all(
     Ok(())
 }
 
+// Settles all declared names over what the parent hands down.
+fn settled(
+    alloc: Global,
+    decls: &Decls,
+    parent: Option<&Valuation>,
+    plan: &Plan,
+    limit: u32,
+) -> Result<Settling, ElemErr>
+    requires some { 1 ≤ limit }
+    requires most { limit ≤ 32768 }
+    requires parent { ParentIsKept (option_copied parent) }
+    requires nodes { length plan.now.order.nodes.items ≡ length plan.now.names.keys }
+    requires flags { length plan.now.order.cyclic.items ≡ length plan.now.names.keys }
+    requires plan { IsPlan decls.now (option_copied parent) limit plan.now.names.keys plan.now.order.nodes.items plan.now.order.cyclic.items }
+    requires custom { (name : List ℕ) → Contains plan.now.names.keys name → is_custom name ≡ true }
+    ensures solves { IfOk result (λ settling. IsValuation (the_element decls.now (option_copied parent.entry) limit) (values_of settling.values)) }
+    ensures faults { IfOk result (λ settling. (key : Key) (cause : Reported) → Contains settling.faults (key, cause) ↔ IsInvalid (the_element decls.now (option_copied parent.entry) limit) (values_of settling.values) key (cause_of cause)) }
+    ensures once { IfOk result (λ settling. IsOnce settling.faults) }
+    ensures kept { IfOk result (λ settling. AreKept settling.values) }
+{
+    loose_element_is_lawful::<Key, Token>();
+    loose_elements_are_solved::<Key, Token>();
+    properties_are_found();
+    outcomes_are_by_key();
+    let mut settling = begun(alloc, parent)?;
+    settle_all(
+        alloc,
+        decls,
+        parent,
+        &plan.names,
+        &plan.order,
+        limit,
+        &mut settling,
+    )?;
+    Ok(settling)
+}
+
 /// The values of an element and its invalid properties: the one solution of its equations (Cascading Variables 1). The keys
-/// of the declarations are names of custom properties, and none is registered.
+/// of the declarations are names of custom properties, and none is registered. They are numbered by a u32.
 ///
 /// The parent's values are kept ones, and so are the answer's. `faults` come in byte order of their names as the report
 /// writes them.
@@ -140,26 +179,24 @@ pub fn element<L: Ledger>(
 ) -> Result<Computed, ElemErr>
     requires some { 1 ≤ limit }
     requires most { limit ≤ 32768 }
+    requires few { length decls.now ≤ most_targets }
     requires parent { ParentIsKept (option_copied parent) }
     ensures solves { IfOk result (λ computed. IsValuation (the_element decls.now (option_copied parent.entry) limit) (values_of computed.values)) }
     ensures only { IfOk result (λ computed. (other : Key → Outcome Token ⊥) → IsValuation (the_element decls.now (option_copied parent.entry) limit) other → (key : Key) → other key ≡ values_of computed.values key) }
     ensures faults { IfOk result (λ computed. (key : Key) (cause : Reported) → Contains computed.faults (key, cause) ↔ IsInvalid (the_element decls.now (option_copied parent.entry) limit) (values_of computed.values) key (cause_of cause)) }
+    ensures told { IfOk result (λ computed. (key : Key) (cause : Cause Key) → IsInvalid (the_element decls.now (option_copied parent.entry) limit) (values_of computed.values) key cause → IsReported computed.faults key cause) }
     ensures once { IfOk result (λ computed. IsOnce computed.faults) }
     ensures ordered { IfOk result (λ computed. IsByName computed.faults) }
     ensures computed { IfOk result (IsComputed decls.now (option_copied parent.entry) limit) }
     ensures kept { IfOk result (λ computed. AreKept computed.values) }
     ensures counted { steps.old ≤ steps.new }
-    ensures bound { OnOk result (CountsReferences decls.now (option_copied parent.entry) limit steps.old steps.new) }
+    ensures bound { steps.new ≤ steps.old + (reference_count decls.now + length decls.now) }
 {
     loose_element_is_lawful::<Key, Token>();
     loose_elements_are_solved::<Key, Token>();
     properties_are_found();
-    outcomes_are_by_key();
-    let names = declared_names(alloc, decls)?;
-    let graph = references(alloc, decls, &names)?;
-    let order = ordered(alloc, &graph, steps)?;
-    let mut settling = begun(alloc, parent)?;
-    settle_all(alloc, decls, parent, &names, &order, limit, &mut settling)?;
+    let plan = planned(alloc, decls, steps)?;
+    let settling = settled(alloc, decls, parent, &plan, limit)?;
     let faults = by_name(alloc, settling.faults.as_slice())?;
     Ok(Computed {
         values: settling.values,

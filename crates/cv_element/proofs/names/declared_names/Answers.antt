@@ -8,6 +8,7 @@ loop-place-preserved c = record {
   listed = listed-step c.args.decls.now c.loop-place.names.keys c.add_name.new.names.keys c.loop-place.place _ _ c.at.ensures.entry c.in_ok-add_name.ensures.here c.in_ok-add_name.ensures.kept c.in_ok-add_name.ensures.only c.loop-place.invariant.listed;
   declared = declared-step c.args.decls.now c.loop-place.names.keys c.add_name.new.names.keys c.loop-place.place _ _ c.at.ensures.entry c.in_ok-add_name.ensures.here c.in_ok-add_name.ensures.kept c.in_ok-add_name.ensures.only c.loop-place.invariant.declared;
   custom = custom-step c.args.decls.now c.loop-place.names.keys c.add_name.new.names.keys c.loop-place.place _ _ c.at.ensures.entry c.in_ok-add_name.ensures.here c.in_ok-add_name.ensures.kept c.in_ok-add_name.ensures.only c.at.ensures.kept c.loop-place.invariant.custom;
+  few = omega (arith, c.loop-place.invariant.few, c.in_ok-add_name.ensures.few);
   once = c.in_ok-add_name.ensures.once;
 }
 

@@ -1,4 +1,4 @@
-use Rattle.std.proofs.Common.{false, subst}
+use Rattle.std.proofs.Common.{false, IfOk, subst}
 use Rattle.cv_var.specs.References.{pieces_of}
 use Rattle.cv_subst.specs.Values.{value_in}
 use Rattle.cv_props.specs.Valuations.{values_of}
@@ -8,4 +8,4 @@ use Rattle.cv_element.proofs.settling.answer_loaded.Goals as goal
 
 pub returns-clause-answer : goal.returns-clause-answer
 returns-clause-answer c =
-    subst (λ o. IsAnswer false o c.args.limit c.in_ok-found.found) (sub-agrees (value_in c.load_references.new.runs) (values_of c.args.values.now) (pieces_of c.args.declared.now) c.in_ok-load_references.ensures.here) c.in_ok-found.ensures
+    subst (λ o. IfOk c.answer.result (IsAnswer false o c.args.limit)) (sub-agrees (value_in c.load_references.new.runs) (values_of c.args.values.now) (pieces_of c.args.declared.now) c.in_ok-load_references.ensures.here) c.answer.ensures
