@@ -1,7 +1,7 @@
 -- Names and keys that are added one after another.
-use Rattle.std.proofs.Common.{◌≡◌, ℕ, ◌+◌, ◌<◌, List, [], ◌∷◌, ◌++◌, length, take, get_or, sym, ap, ◌∙◌, refl, true}
-use Rattle.std.specs.Prelude.{Option, Some, bytes_eq, filter}
-use Rattle.std.specs.List.{fold, filter_map, slice_get}
+use Rattle.std.proofs.Common.{◌≡◌, ℕ, ◌+◌, List, [], ◌∷◌, ◌++◌, length, take, sym, ap, ◌∙◌, true}
+use Rattle.std.specs.Prelude.{Some, bytes_eq, filter}
+use Rattle.std.specs.List.{filter_map, slice_get}
 use Rattle.std.specs.Map.{keys_of}
 use Rattle.std.proofs.lemmas.List.{take_more, map-append}
 use Rattle.std.proofs.lemmas.List.Sums.{fold-append}

@@ -1,6 +1,6 @@
 -- Styles that are read one after another.
 use Rattle.std.proofs.Common.{◌≡◌, ℕ, ◌+◌, List, [], ◌∷◌, ◌++◌, Bool, true, false, refl, sym, ap, ◌∙◌, length, append-nil, arith}
-use Rattle.std.specs.Prelude.{Option, Some, None, option_map, map, ◌||◌, if◌then◌else◌}
+use Rattle.std.specs.Prelude.{Some, None, option_map, map, ◌||◌, if◌then◌else◌}
 use Rattle.std.specs.List.{list_any}
 use Rattle.std.proofs.lemmas.List.{append_assoc}
 use Rattle.cv_doc.specs.declared.elements.Elem.{Elem}

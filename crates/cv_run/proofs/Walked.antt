@@ -11,6 +11,7 @@ use Rattle.cv_doc.specs.Walks.{AreReady, Reaches}
 use Rattle.cv_props.specs.Winners.{Declarations}
 use Rattle.cv_element.specs.Element.{AreKept, IsComputed}
 use Rattle.cv_run.specs.Styles.{declarations_of}
+use Rattle.cv_run.specs.Telling.{AreFew}
 use Rattle.cv_run.specs.Tree.{AreComputed, IsOfElement, parent_values}
 use Rattle.cv_run.specs.Walking.{IsOneMore, IsReady, Stepped}
 use Rattle.cv_run.specs.declared.tree.Computing.{Computing}
@@ -45,6 +46,7 @@ record IsBegun (i count : ℕ) (s : Computing) : Type 0 where
   least : 1 ≤ s.limit
   most : s.limit ≤ 32768
   declared : i + count ≡ length s.declarations.items
+  few : All AreFew s.declarations.items
   before : length s.all.items ≡ i
   kept : All (λ computed. AreKept computed.values) s.all.items
 
@@ -57,6 +59,7 @@ ready_at i count s parent b is = record {
   least = b.least;
   most = b.most;
   declared = omega (arith, b.declared);
+  few = b.few;
   before = b.before;
   kept = b.kept;
   earlier = earlier i (length s.all.items) parent b.before is;
@@ -70,6 +73,7 @@ begun_next i count s t parent b m =
       least = subst (λ (l : ℕ). 1 ≤ l) (sym m.limit) b.least;
       most = subst (λ (l : ℕ). l ≤ 32768) (sym m.limit) b.most;
       declared = omega (arith, b.declared, same);
+      few = subst (All AreFew) (sym m.declarations) b.few;
       before = omega (arith, grown, length-append s.all.items (m.computed ∷ []), b.before);
       kept = subst (All (λ computed. AreKept computed.values)) (sym m.all) (All-push (λ computed. AreKept computed.values) s.all.items m.computed b.kept m.next.kept);
     }
@@ -82,11 +86,12 @@ ready_from i (e ∷ es) s tree b = (
 )
 
 pub ready_all : (elements : List Elem) (s : Computing) → IsTree elements → 1 ≤ s.limit → s.limit ≤ 32768 → s.declarations.items ≡ map declarations_of elements
-    → length (map declarations_of elements) ≡ length elements → s.all.items ≡ [] → AreReady IsReady Stepped 0 elements s
-ready_all elements s tree least most declared count none = ready_from 0 elements s (from_start elements tree) (record {
+    → All AreFew s.declarations.items → length (map declarations_of elements) ≡ length elements → s.all.items ≡ [] → AreReady IsReady Stepped 0 elements s
+ready_all elements s tree least most declared few count none = ready_from 0 elements s (from_start elements tree) (record {
   least = least;
   most = most;
   declared = omega (arith, ap length declared, count);
+  few = few;
   before = ap length none;
   kept = subst (All (λ computed. AreKept computed.values)) (sym none) (λ k d lt. absurd (omega (arith, lt)));
 })

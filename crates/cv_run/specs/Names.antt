@@ -1,5 +1,5 @@
 -- The properties that a document shows, and the names that it counts.
-use Rattle.std.specs.Prelude.{ℕ, ◌≡◌, All, Bool, true, false, List, [], ◌∷◌, ◌++◌, bytes_eq, filter, length, map, IfSome, Option, Some, None}
+use Rattle.std.specs.Prelude.{ℕ, ◌≡◌, All, Bool, true, false, List, [], ◌++◌, bytes_eq, filter, length, map, Option, Some, None}
 use Rattle.std.specs.List.{flat_map, filter_map, list_any}
 use Rattle.std.specs.Map.{keys_of}
 use Rattle.indexmap.specs.IndexSet.{insert_all}

@@ -1,26 +1,27 @@
 -- What a run comes to, by each status, and what it wrote.
-use Rattle.std.specs.Prelude.{ℕ, ◌≡◌, ◌⊎◌, List, Option, None, Some, IsSomeAnd}
+use Rattle.std.specs.Prelude.{ℕ, ◌≡◌, ◌⊎◌, List, Option, IsSomeAnd}
 use Rattle.std.specs.Io.KnownBytes.{Appends, Keeps}
 use Rattle.cv_io.specs.Streams.{TookPrefix}
 use Rattle.cv_doc.specs.Reading.{Shape}
-use Rattle.cv_doc.specs.declared.refusal.What.TheVariants.{Bytes, Elements, Show, Commands, Names}
+use Rattle.cv_doc.specs.declared.refusal.What.TheVariants.{Bytes}
 use Rattle.cv_words.specs.Words.{HasWords, IsRefused}
 use Rattle.cv_words.specs.declared.words.Words.{Words}
 use Rattle.cv_run.specs.Fates.{Fate, computed, fate_of, malformed, too_large, unbuilt}
-use Rattle.cv_run.specs.Single.{IsOnlyReport}
+use Rattle.cv_run.specs.Single.{HaveOneResult, IsOnlyReport}
 use Rattle.cv_run.specs.declared.status.Status.{Status}
-use Rattle.cv_run.specs.declared.status.Status.TheVariants.{Done, Usage, ReadFault, TooLarge, Malformed, Unbuilt, WriteFault, NoMemory}
+use Rattle.cv_run.specs.declared.status.Status.TheVariants.{Done, TooLarge, Malformed, Unbuilt, WriteFault, NoMemory}
 
 -- The words say something: these are a job and numbers of their kinds and ranges.
 abbrev pub AreRead : List (List ℕ) → Type 0
 AreRead words = (read : Words) × HasWords words read
 
--- the text is the one report of an input, under the limit of the words
+-- The text is the one report of an input, under the limit of the words: the report of the only values that solve the equations.
 pub record IsText (words : List (List ℕ)) (given text : List ℕ) : Type 0 where
   pub read : Words
   pub has_words : HasWords words read
   pub document : Shape
   pub document_given : fate_of given ≡ computed document
+  pub single : HaveOneResult document.elements read.limit
   pub report : IsOnlyReport document read.limit text
 
 -- the sink took the report and nothing else

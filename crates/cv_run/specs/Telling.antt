@@ -1,22 +1,28 @@
 -- What the stages of a run answer of a document.
-use Rattle.std.specs.Prelude.{ℕ, ◌≡◌, ◌≤◌, length, Bool, true, false, List, map, Option, Some, None, IfSome}
+use Rattle.std.specs.Prelude.{ℕ, ◌≡◌, ◌≤◌, length, All, true, false, List, map, Option, Some, None, IfSome}
 use Rattle.cv_doc.specs.Reading.{Shape}
+use Rattle.cv_props.specs.Winners.{Declarations}
 use Rattle.cv_report.specs.Report.{report_text}
 use Rattle.cv_run.specs.Building.{is_unbuilt}
-use Rattle.cv_run.specs.Fates.{Fate, IsTooLarge, computed, fate_of, malformed, too_large, unbuilt}
+use Rattle.cv_run.specs.Fates.{Fate, IsTooLarge, computed, fate_of, malformed, most_bytes, too_large, unbuilt}
 use Rattle.cv_run.specs.Names.{shown_of}
-use Rattle.cv_run.specs.Single.{IsOnlyReport}
+use Rattle.cv_run.specs.Single.{HaveOneResult, IsOnlyReport}
 use Rattle.cv_run.specs.Styles.{declarations_of, notes_of}
 use Rattle.cv_run.specs.declared.contents.Contents.{Contents}
 use Rattle.cv_run.specs.declared.report.Report.{Report}
 use Rattle.cv_run.specs.declared.status.Status.{Status}
 use Rattle.cv_run.specs.declared.status.Status.TheVariants.{Done, Usage, ReadFault, TooLarge, Malformed, Unbuilt, WriteFault, NoMemory}
 
+-- an element has no more declarations than an input has bytes
+abbrev pub AreFew : Declarations → Type 0
+AreFew declarations = length declarations ≤ most_bytes
+
 -- what a document that is built says of its elements
 pub record HasContents (document : Shape) (contents : Contents) : Type 0 where
   pub built : is_unbuilt document ≡ false
   pub notes : contents.notes.items ≡ notes_of document
   pub declarations : contents.declarations.items ≡ map declarations_of document.elements
+  pub few : All AreFew contents.declarations.items
   pub shown : contents.shown.items ≡ shown_of document
 
 abbrev pub MayHaveContents : Shape → Option Contents → Type 0
@@ -32,6 +38,7 @@ pub record TellsOf (fate : Fate) (limit : ℕ) (report : Report) : Type 0 where
   pub document : Shape
   pub document_computed : fate ≡ computed document
   pub few : length report.all.items ≤ 16384
+  pub single : HaveOneResult document.elements limit
   pub only : IsOnlyReport document limit (text_of report)
 
 -- a status that is a refusal of the input; want of memory is free

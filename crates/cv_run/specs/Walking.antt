@@ -1,18 +1,20 @@
 -- One step of the walk over the tree.
-use Rattle.std.specs.Prelude.{ℕ, ◌≡◌, ◌<◌, ◌≤◌, ◌++◌, All, List, [], ◌∷◌, length, slice_get, Option, Some, None, IfOk, IfSome, Result, ⊤}
+use Rattle.std.specs.Prelude.{ℕ, ◌≡◌, ◌<◌, ◌≤◌, ◌++◌, All, [], ◌∷◌, length, slice_get, Option, Some, IfOk, IfSome, Result, ⊤}
 use Rattle.std.specs.declared.alloc.AllocError.{AllocError}
 use Rattle.cv_props.specs.declared.computed.Computed.{Computed}
 use Rattle.cv_props.specs.Winners.{Declarations}
 use Rattle.cv_element.specs.Element.{AreKept, IsComputed}
+use Rattle.cv_run.specs.Telling.{AreFew}
 use Rattle.cv_run.specs.Tree.{parent_values}
 use Rattle.cv_run.specs.declared.tree.Computing.{Computing}
 
--- The limit is one that an element may have, the element has declarations, and all elements before it, its parent among them, are
--- computed.
+-- The limit is one that an element may have, the element has declarations, not too many, and all elements before it, its parent
+-- among them, are computed.
 pub record IsReady (computing : Computing) (index : ℕ) (parent : Option ℕ) : Type 0 where
   pub least : 1 ≤ computing.limit
   pub most : computing.limit ≤ 32768
   pub declared : index < length computing.declarations.items
+  pub few : All AreFew computing.declarations.items
   pub before : length computing.all.items ≡ index
   pub kept : All (λ computed. AreKept computed.values) computing.all.items
   pub earlier : IfSome parent (λ at. at < length computing.all.items)

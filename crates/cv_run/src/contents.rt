@@ -1,6 +1,8 @@
 // What a document says of its elements.
 ghost use Rattle.std.specs.Prelude.{◌≡◌, ◌≤◌, IfOk, IfSome, length, option_map};
+ghost use Rattle.cv_doc.specs.Kept.{TextsAreWithin};
 ghost use Rattle.cv_doc.specs.Reading.{shape_of};
+ghost use Rattle.cv_run.specs.Fates.{most_bytes};
 ghost use Rattle.cv_run.specs.Names.{AreNames, keys_in, keys_shown, named_keys, show_ordinary};
 ghost use Rattle.cv_run.specs.Telling.{MayHaveContents};
 
@@ -23,6 +25,7 @@ pub struct Contents {
 /// What a document says, or `None` where it has a form that isn't built yet.
 pub fn contents_of(alloc: Global, document: &Document) -> Result<Option<Contents>, AllocError>
     requires few { length document.now.elements.items ≤ 16384 }
+    requires short { TextsAreWithin most_bytes (shape_of document.now) }
     requires names { IfSome (option_map (λ names. names.items) document.now.show) AreNames }
     ensures { IfOk result (λ contents. MayHaveContents (shape_of document.now) contents) }
 {

@@ -6,10 +6,12 @@ ghost use Rattle.cv_doc.specs.Members.{is_name};
 ghost use Rattle.cv_doc.specs.Reading.{Shape};
 ghost use Rattle.cv_props.specs.Keys.{key_named};
 ghost use Rattle.cv_run.specs.Names.{named_keys};
+ghost use Rattle.cv_run.specs.Outcome.{IsText};
 ghost use Rattle.cv_run.specs.Single.{HasOneReport, HaveOneResult};
 
 use cv_element::elements_have_one_result;
 use cv_props::properties_are_found;
+use cv_words::words_say_one_thing;
 
 /// A tree of elements has exactly one valuation: values that solve the equations on each element, given its parent's, with the
 /// causes for which properties are invalid. A document has exactly one report.
@@ -19,6 +21,13 @@ pub fn documents_have_one_report()
 {
     elements_have_one_result();
     properties_are_found();
+}
+
+/// The words of a command line and the bytes of an input have no more than one report.
+pub fn runs_have_one_text()
+    ensures { (words : List (List ℕ)) (given one other : List ℕ) → IsText words given one → IsText words given other → other ≡ one }
+{
+    words_say_one_thing();
 }
 
 /// The names that a document may show are those of keys, and so no name to show is dropped.

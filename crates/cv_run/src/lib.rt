@@ -14,6 +14,6 @@ mod tests;
 mod tree;
 
 pub use cv_doc::{BadDoc, What};
-pub use laws::{documents_have_one_report, shown_names_are_keys};
+pub use laws::{documents_have_one_report, runs_have_one_text, shown_names_are_keys};
 pub use running::run;
 pub use status::Status;

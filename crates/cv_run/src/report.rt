@@ -1,9 +1,9 @@
 // What becomes of an input, and the report of it.
 ghost use Rattle.std.specs.Prelude.{◌≤◌, IfErr, IfOk, length};
-ghost use Rattle.cv_doc.specs.Kept.{IsSound};
+ghost use Rattle.cv_doc.specs.Kept.{IsSound, TextsAreWithin};
 ghost use Rattle.cv_doc.specs.Reading.{document_of, shape_of};
 ghost use Rattle.cv_doc.specs.Refusals.{RefusesCounted};
-ghost use Rattle.cv_run.specs.Fates.{computed, fate_of_document, fate_of_reading};
+ghost use Rattle.cv_run.specs.Fates.{computed, fate_of_document, fate_of_reading, most_bytes};
 ghost use Rattle.cv_run.specs.Telling.{HasContents, IsRefusal, TellsOf};
 
 use crate::contents::{Contents, contents_of};
@@ -27,6 +27,7 @@ pub struct Report {
 
 /// The report of the bytes of a document, or the status with which it has none.
 pub fn report_of(alloc: Global, bytes: &[u8], limit: u32) -> Result<Report, Status>
+    requires short { length bytes.now ≤ most_bytes }
     requires least { 1 ≤ limit }
     requires most { limit ≤ 32768 }
     ensures tells { IfOk result (λ report. TellsOf (fate_of_reading (document_of bytes.now)) limit report) }
@@ -44,6 +45,7 @@ pub fn report_of(alloc: Global, bytes: &[u8], limit: u32) -> Result<Report, Stat
 
 fn report_of_document(alloc: Global, document: &Document, limit: u32) -> Result<Report, Status>
     requires sound { IsSound (shape_of document.now) }
+    requires short { TextsAreWithin most_bytes (shape_of document.now) }
     requires least { 1 ≤ limit }
     requires most { limit ≤ 32768 }
     ensures tells { IfOk result (λ report. TellsOf (fate_of_document (shape_of document.now)) limit report) }

@@ -1,8 +1,10 @@
 // The styles of a document's elements: their declarations, and what is ignored in them.
-ghost use Rattle.std.specs.Prelude.{◌≡◌, ◌<◌, ◌≤◌, ◌++◌, All, IfOk, IfSome, IsSome, length, map, option_map};
+ghost use Rattle.std.specs.Prelude.{◌≡◌, ◌≤◌, ◌++◌, All, IfOk, IfSome, IsSome, length, option_map};
 ghost use Rattle.cv_spec_text.specs.Splits.{IsSpelt};
 ghost use Rattle.cv_run.specs.Building.{all_built, built_style};
+ghost use Rattle.cv_run.specs.Fates.{most_bytes};
 ghost use Rattle.cv_run.specs.Styles.{elements_notes, items_in, tokens_in};
+ghost use Rattle.cv_run.specs.Telling.{AreFew};
 ghost use Rattle.cv_props.specs.Kept.{notes_on};
 
 use cv_doc::Elem;
@@ -11,21 +13,13 @@ use cv_spec_text::{Name, Token};
 use cv_token::tokenise;
 use std::alloc::{AllocError, Global};
 
-// The most tokens of a list, and one more. So many tokens of 40 bytes are more than there is memory for.
-const MOST_TOKENS: usize = 4294967288;
-
-/// The tokens of a text.
+/// The tokens of a text, no more than its characters.
 pub fn tokens_in(alloc: Global, text: &Name) -> Result<Vec<Token>, AllocError>
     ensures tokens { IfOk result (λ all. all.items ≡ tokens_in text.now) }
     ensures spelt { IfOk result (λ all. All IsSpelt all.items) }
-    ensures few { IfOk result (λ all. length all.items < 4294967288) }
+    ensures few { IfOk result (λ all. length all.items ≤ length text.now) }
 {
-    let tokens = tokenise(alloc, text.text())?;
-    if tokens.len() < MOST_TOKENS {
-        Ok(tokens)
-    } else {
-        Err(AllocError)
-    }
+    tokenise(alloc, text.text())
 }
 
 /// The declarations of each element, and the notes on what is ignored behind those that are there. `None` where a style declares
@@ -36,8 +30,10 @@ pub fn declarations_of(
     elements: &[Elem],
     notes: &mut Vec<Note>,
 ) -> Result<Option<Vec<Decls>>, AllocError>
-    requires { length elements.now ≤ 16384 }
+    requires count { length elements.now ≤ 16384 }
+    requires short { All (λ element. length element.style ≤ most_bytes) elements.now }
     ensures declarations { IfOk result (λ all. option_map (λ declarations. declarations.items) all ≡ all_built elements.now) }
+    ensures few { IfOk result (λ all. IfSome all (λ declarations. All AreFew declarations.items)) }
     ensures notes { IfOk result (λ all. IsSome all → notes.new.items ≡ notes.old.items ++ elements_notes 0 elements.now) }
 {
     let mut all = Vec::new(alloc);
@@ -61,7 +57,9 @@ fn declarations_in(
     style: &Name,
     notes: &mut Vec<Note>,
 ) -> Result<Option<Decls>, AllocError>
+    requires { length style.now ≤ most_bytes }
     ensures declarations { IfOk result (λ declarations. declarations ≡ built_style style.now) }
+    ensures few { IfOk result (λ declarations. IfSome declarations AreFew) }
     ensures notes { IfOk result (λ declarations. IsSome declarations → notes.new.items ≡ notes.old.items ++ notes_on number (items_in style.now)) }
 {
     let tokens = tokens_in(alloc, style)?;

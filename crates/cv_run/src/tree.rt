@@ -4,6 +4,7 @@ ghost use Rattle.std.specs.Option.{option_copied};
 ghost use Rattle.cv_element.specs.Element.{AreKept, IsComputed, ParentIsKept};
 ghost use Rattle.cv_doc.specs.Kept.{IsTree};
 ghost use Rattle.cv_run.specs.Styles.{declarations_of};
+ghost use Rattle.cv_run.specs.Telling.{AreFew};
 ghost use Rattle.cv_run.specs.Tree.{AreComputed, parent_values};
 ghost use Rattle.cv_run.specs.Walking.{IsReady, IsNextOf, Stepped};
 
@@ -37,6 +38,7 @@ pub fn computed_of(
     limit: u32,
 ) -> Result<Vec<Computed>, AllocError>
     requires declarations { declarations.items ≡ map declarations_of elements.now.items }
+    requires short { All AreFew declarations.items }
     requires tree { IsTree elements.now.items }
     requires few { length elements.now.items ≤ 16384 }
     requires least { 1 ≤ limit }
@@ -92,6 +94,7 @@ impl Computing {
         declarations: &Decls,
         parent: Option<&Valuation>,
     ) -> Result<Computed, AllocError>
+        requires few { AreFew declarations.now }
         requires least { 1 ≤ self.now.limit }
         requires most { self.now.limit ≤ 32768 }
         requires parent { ParentIsKept (option_copied parent) }
@@ -132,6 +135,7 @@ fn computed_counting<L: Ledger>(
     requires name { blank.name ≡ L.name }
     requires parts { blank.parts ≡ L.parts }
     requires some { 0 < blank.parts }
+    requires few { AreFew declarations.now }
     requires least { 1 ≤ limit }
     requires most { limit ≤ 32768 }
     requires parent { ParentIsKept (option_copied parent) }

@@ -1,12 +1,12 @@
-use Rattle.std.proofs.Common.{refl, ap, ◌∙◌, sym, subst, ◌≡◌, ◌++◌, None, Some, List, false}
-use Rattle.std.specs.Prelude.{IsSome, map, option_map}
+use Rattle.std.proofs.Common.{refl, ap, ◌∙◌, sym, subst, ◌≡◌, ◌++◌, None, Some, false}
+use Rattle.std.specs.Prelude.{All, IfSome, IsSome, option_map}
 use Rattle.cv_doc.specs.Reading.{shape_of}
 use Rattle.cv_component.specs.Rules.{rules}
 use Rattle.cv_props.specs.Sheets.{notes_on_rules, register}
-use Rattle.cv_props.specs.Winners.{Declarations}
 use Rattle.cv_run.specs.Building.{all_built}
 use Rattle.cv_run.specs.Names.{keys_in, keys_shown, show_ordinary}
-use Rattle.cv_run.specs.Styles.{declarations_of, elements_notes, rules_in}
+use Rattle.cv_run.specs.Styles.{elements_notes, rules_in}
+use Rattle.cv_run.specs.Telling.{AreFew}
 use Rattle.cv_run.proofs.Stepping.{all_are_built, none_built, some_built, unbuilt_elements}
 use Rattle.cv_run.proofs.contents.contents_of.Goals as goal
 
@@ -32,5 +32,6 @@ returns c =
           ∙ ap (λ n. n ++ elements_notes 0 c.deref-3.result.now) (c.in_ok-registry.ensures.notes ∙ ap (λ t. notes_on_rules (rules t)) (c.deref-2.ensures.value ∙ c.in_ok-sheet.ensures.tokens))
           ∙ ap (λ l. notes_on_rules (rules_in c.args.document.now.sheet) ++ elements_notes 0 l) c.deref-3.ensures.value;
       declarations = built.1;
+      few = subst (λ all. IfSome all (λ d. All AreFew d.items)) c.in-Some.is c.in_ok-declarations.ensures.few;
       shown = c.in_ok-shown.ensures ∙ ap (λ l. keys_shown show (keys_in l)) (c.deref-4.ensures.value ∙ built.1);
     }
