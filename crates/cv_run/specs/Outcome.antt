@@ -1,15 +1,18 @@
 -- What a run comes to, by each status, and what it wrote.
-use Rattle.std.specs.Prelude.{ℕ, ◌≡◌, ◌⊎◌, List, Option, IsSomeAnd}
-use Rattle.std.specs.Io.KnownBytes.{Appends, Keeps}
+use Rattle.std.specs.Prelude.{ℕ, ◌≡◌, ◌⊎◌, List, Option, IfSome, IsSomeAnd}
+use Rattle.std.specs.Io.KnownBytes.{Appends, IsAtEnd, Keeps}
 use Rattle.cv_io.specs.Streams.{TookPrefix}
 use Rattle.cv_doc.specs.Reading.{Shape}
+use Rattle.cv_doc.specs.declared.refusal.BadDoc.{BadDoc}
+use Rattle.cv_doc.specs.declared.refusal.What.{What}
 use Rattle.cv_doc.specs.declared.refusal.What.TheVariants.{Bytes}
 use Rattle.cv_words.specs.Words.{HasWords, IsRefused}
 use Rattle.cv_words.specs.declared.words.Words.{Words}
-use Rattle.cv_run.specs.Fates.{Fate, computed, fate_of, malformed, too_large, unbuilt}
+use Rattle.cv_run.specs.Fates.{Fate, IsTooLarge, computed, fate_of, malformed, too_large, unbuilt}
+use Rattle.cv_run.specs.Fates as fate
 use Rattle.cv_run.specs.Single.{HaveOneResult, IsOnlyReport}
 use Rattle.cv_run.specs.declared.status.Status.{Status}
-use Rattle.cv_run.specs.declared.status.Status.TheVariants.{Done, TooLarge, Malformed, Unbuilt, WriteFault, NoMemory}
+use Rattle.cv_run.specs.declared.status.Status.TheVariants.{Done, Usage, ReadFault, TooLarge, Malformed, Unbuilt, WriteFault, NoMemory}
 
 -- The words say something: these are a job and numbers of their kinds and ranges.
 abbrev pub AreRead : List (List ℕ) → Type 0
@@ -75,3 +78,21 @@ pub record HasAllButMemory (words : List (List ℕ)) (given : Option (List ℕ))
   pub sound : IsSound words source_failed
   pub sink_sound : ¬ sink_failed
   pub input : IsSomeAnd given IsComputable
+
+-- How a run over these words ends, before it tells its status. The source had the bytes `given` left and has `left` after it; the
+-- sink took what makes `taken` of `before`.
+pub record EndsAs (words : List (List ℕ)) (given left : Option (List ℕ)) (source_failed : Type 0) (before taken : Option (List ℕ)) (sink_failed : Type 0) (status : Status) : Type 0 where
+  pub done : status ≡ Done → IfSome given (λ bytes. HasWritten words bytes before taken)
+  pub usage : status ≡ Usage → IsRefused words
+  pub said : (status ≡ Usage) ⊎ (status ≡ NoMemory) ⊎ AreRead words
+  pub read_fault : status ≡ ReadFault → source_failed
+  pub too_large : (what : What) → status ≡ TooLarge what → IfSome given (λ bytes. fate_of bytes ≡ fate.too_large what)
+  pub parts : (what : What) → status ≡ TooLarge what → IfSome given (λ bytes. IsTooLarge bytes what)
+  pub malformed : (why : BadDoc) → status ≡ Malformed why → IfSome given (λ bytes. fate_of bytes ≡ fate.malformed why)
+  pub unbuilt : status ≡ Unbuilt → IfSome given (λ bytes. fate_of bytes ≡ fate.unbuilt)
+  pub write_fault : status ≡ WriteFault → sink_failed
+  pub read_whole : TellsOfDocument status → IsAtEnd left
+  pub untouched : WritesNothing status → Keeps before taken
+  pub cut_short : IsCutShort status → IfSome given (λ bytes. HasWrittenFront words bytes before taken)
+  pub refuses : IsSound words source_failed → IfSome given (λ bytes. ComesOf (fate_of bytes) status)
+  pub complete : HasAllButMemory words given source_failed sink_failed → (status ≡ Done) ⊎ (status ≡ NoMemory)

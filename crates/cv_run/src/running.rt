@@ -5,7 +5,7 @@ ghost use Rattle.cv_io.specs.Causes.{Rose};
 ghost use Rattle.cv_io.specs.Streams.{TookPrefix};
 ghost use Rattle.cv_words.specs.Words.{IsRefused, texts_of};
 ghost use Rattle.cv_run.specs.Fates.{IsTooLarge, fate_of, malformed, too_large, unbuilt};
-ghost use Rattle.cv_run.specs.Outcome.{AreRead, ComesOf, HasAllButMemory, HasWritten, HasWrittenFront, IsCutShort, IsSound, TellsOfDocument, WritesNothing};
+ghost use Rattle.cv_run.specs.Outcome.{AreRead, ComesOf, EndsAs, HasAllButMemory, HasWritten, HasWrittenFront, IsCutShort, IsSound, TellsOfDocument, WritesNothing};
 ghost use Rattle.cv_run.specs.StatusLines.{line_of};
 ghost use Rattle.cv_run.specs.Telling.{EndsEarly, IsOversized, IsStopped, TellsOf, text_of};
 
@@ -69,36 +69,8 @@ pub fn run<S: Source, O: Sink, E: Sink>(
 
 // The run but for its line.
 fn answer<S: Source, O: Sink>(alloc: Global, words: &[String], src: &mut S, out: &mut O) -> Status
-    // A run that is done has read all of its input, and has written the report of it and nothing else.
-    ensures done { result ≡ Status.Done → IfSome (S.left src.old)
-        (λ given. HasWritten (texts_of words.now) given (O.taken out.old) (O.taken out.new)) }
-
-    // Each other status has its cause.
-    ensures usage { result ≡ Status.Usage → IsRefused (texts_of words.now) }
-    ensures words { (result ≡ Status.Usage) ⊎ (result ≡ Status.NoMemory) ⊎ AreRead (texts_of words.now) }
-    ensures read_fault { result ≡ Status.ReadFault → Rose (S.faults src.old) (S.faults src.new) }
-    ensures too_large { (what : What) → result ≡ Status.TooLarge what → IfSome (S.left src.old) (λ given. fate_of given ≡ too_large what) }
-    ensures parts { (what : What) → result ≡ Status.TooLarge what → IfSome (S.left src.old) (λ given. IsTooLarge given what) }
-    ensures malformed { (why : BadDoc) → result ≡ Status.Malformed why → IfSome (S.left src.old) (λ given. fate_of given ≡ malformed why) }
-    ensures unbuilt { result ≡ Status.Unbuilt → IfSome (S.left src.old) (λ given. fate_of given ≡ unbuilt) }
-    ensures write_fault { result ≡ Status.WriteFault → Rose (O.faults out.old) (O.faults out.new) }
-
-    // What tells of a document comes only once the input was read to its end.
-    ensures read_whole { TellsOfDocument result → IsAtEnd (S.left src.new) }
-
-    // Where a run isn't done, `out` took nothing, or at a fault of writing and for want of memory a front of the report.
-    ensures untouched { WritesNothing result → Keeps (O.taken out.old) (O.taken out.new) }
-    ensures cut_short { IsCutShort result → IfSome (S.left src.old)
-        (λ given. HasWrittenFront (texts_of words.now) given (O.taken out.old) (O.taken out.new)) }
-
-    // Words that are taken and a source that doesn't fail give what comes of the input, and nothing else.
-    ensures refuses { IsSound (texts_of words.now) (Rose (S.faults src.old) (S.faults src.new))
-        → IfSome (S.left src.old) (λ given. ComesOf (fate_of given) result) }
-
-    // Words that are taken, streams that don't fail and an input that is computed give `Done`.
-    ensures complete { HasAllButMemory (texts_of words.now) (S.left src.old)
-        (Rose (S.faults src.old) (S.faults src.new)) (Rose (O.faults out.old) (O.faults out.new))
-        → (result ≡ Status.Done) ⊎ (result ≡ Status.NoMemory) }
+    ensures { EndsAs (texts_of words.now) (S.left src.old) (S.left src.new) (Rose (S.faults src.old) (S.faults src.new))
+        (O.taken out.old) (O.taken out.new) (Rose (O.faults out.old) (O.faults out.new)) result }
 {
     let read = match read_words(alloc, words) {
         Ok(read) => read,
