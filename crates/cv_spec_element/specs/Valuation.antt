@@ -18,7 +18,8 @@ is_substituted None = false
 is_substituted (Some pieces) = has_reference pieces
 
 -- why a declared property is invalid at computed-value time (Cascading Variables 1, "Invalid Variables",
--- "Resolving Dependency Cycles", "Long Variables"; Properties and Values API 1, "Computed Values")
+-- "Resolving Dependency Cycles", "Safely Handling Overly-Long Variables"; Properties and Values API 1,
+-- "Calculation of Computed Values")
 pub data Cause (K : Type 0) : Type 0 where
   cycle : Cause K
   missing : K → Cause K
@@ -57,7 +58,8 @@ module _ {K T V U M : Type 0} (e : Element K T V U M) where
     pub is_typed : e.properties.is_loose p ≡ false
     pub matched_is : matched values p list ≡ answer
 
-  -- the substituted list has this many tokens, more than the limit (Cascading Variables 1, "Long Variables")
+  -- the substituted list has this many tokens, more than the limit (Cascading Variables 1, "Safely Handling
+  -- Overly-Long Variables")
   pub record IsOverLimit (values : K → Outcome T V) (p : K) (count : ℕ) : Type 0 where
     pub list : List T
     pub sub_is : SubIs values p (Ok list)
@@ -74,7 +76,8 @@ module _ {K T V U M : Type 0} (e : Element K T V U M) where
   IsInvalid values p mismatch = (list : List T) × IsMatched values p list no
 
   -- what a property has that is invalid at computed-value time: a loose one the guaranteed-invalid value, any other
-  -- what it has undeclared (Cascading Variables 1, "Invalid Variables"; Properties and Values API 1, "Computed Values")
+  -- what it has undeclared (Cascading Variables 1, "Invalid Variables"; Properties and Values API 1, "Calculation of
+  -- Computed Values")
   abbrev pub invalid_value : K → Outcome T V
   invalid_value p = if e.properties.is_loose p then invalid else undeclared_value e p
 
