@@ -1,46 +1,22 @@
 -- Texts of calculations hold no ident, and those in canonical units no font unit.
-use Rattle.std.specs.Prelude.{Bool, true, ◌&&◌, List, [], ◌∷◌, map}
+use Rattle.std.specs.Prelude.{Bool, true, ◌&&◌, List, [], ◌∷◌}
 use Rattle.std.specs.List.{list_all}
 use Rattle.std.proofs.Common.{◌≡◌, refl, sym, ◌∙◌, ap}
 use Rattle.cv_calc.specs.declared.unit.Unit as units
 use Rattle.cv_calc.specs.declared.unit.Unit.TheVariants.{Em, Rem, Ex, Ch, Ic}
 use Rattle.cv_calc.specs.declared.calc.Calc.{Calc}
 use Rattle.cv_calc.specs.Names.{named}
-use Rattle.cv_calc.specs.Tree.{Each, by_cases}
 use Rattle.cv_calc.proofs.Units.{name_back}
 use Rattle.cv_simplify.specs.Canonical.{is_canonical, all_canonical, canonical_step, holds_canonical}
 use Rattle.cv_simplify.specs.Simplified.{simp}
 use Rattle.cv_simplify.specs.Text.{calc_text}
 use Rattle.cv_simplify.proofs.Canonical.{simp_canonical}
 use Rattle.cv_calc_laws.specs.Fonts.{is_other_unit, is_no_ident, holds_no_font_unit, TextsAreFree}
+use Rattle.cv_calc_laws.specs.Pieces.{TakesTexts}
 use Rattle.cv_calc_laws.specs.Units.{units_step, all_units, passes_if, token_passes}
-use Rattle.cv_calc_laws.proofs.Folding.{StepsAgree, folds_alike, all-Num, all-Sum, all-Product, all-Negate, all-Invert, all-Min, all-Max, all-Clamp}
-use Rattle.cv_calc_laws.proofs.Lists.{false_true, both_are}
-use Rattle.cv_calc_laws.proofs.Written.{TakesTexts, alone_fine, text_fine}
-
--- ---- each unit passes the test that takes all
-
-abbrev any : units.Unit → Bool
-any u = true
-
-abbrev HoldsAny : Calc → Type 0
-HoldsAny c = all_units any c ≡ true
-
-each_any : (cs : List Calc) → Each HoldsAny cs → list_all (λ b. b) (map (all_units any) cs) ≡ true
-each_any [] h = refl
-each_any (c ∷ cs) h = both_are (all_units any c) (list_all (λ b. b) (map (all_units any) cs)) h.0 (each_any cs h.1)
-
-holds_any : (c : Calc) → HoldsAny c
-holds_any = by_cases HoldsAny record {
-  num = λ v u. all-Num any v u;
-  sum = λ cs h. all-Sum any cs ∙ each_any cs h;
-  product = λ cs h. all-Product any cs ∙ each_any cs h;
-  negate = λ c h. all-Negate any c ∙ h;
-  invert = λ c h. all-Invert any c ∙ h;
-  min = λ cs h. all-Min any cs ∙ each_any cs h;
-  max = λ cs h. all-Max any cs ∙ each_any cs h;
-  clamp = λ a b c h k l. all-Clamp any a b c ∙ both_are (all_units any a && all_units any b) (all_units any c) (both_are (all_units any a) (all_units any b) h k) l;
-}
+use Rattle.cv_calc_laws.proofs.Folding.{StepsAgree, folds_alike}
+use Rattle.cv_calc_laws.proofs.Lists.{false_true}
+use Rattle.cv_calc_laws.proofs.Taken.{any, holds_any, texts_are_taken}
 
 -- ---- canonical units
 
@@ -80,7 +56,10 @@ takes_canonical root = record {
   comma = refl;
   open_bracket = refl;
   close_bracket = refl;
-  function = λ name. refl;
+  calc = refl;
+  min = refl;
+  max = refl;
+  clamp = refl;
   delim = λ c. refl;
   number = λ spelling. refl;
   percentage = λ spelling. refl;
@@ -93,7 +72,10 @@ takes_any = record {
   comma = refl;
   open_bracket = refl;
   close_bracket = refl;
-  function = λ name. refl;
+  calc = refl;
+  min = refl;
+  max = refl;
+  clamp = refl;
   delim = λ c. refl;
   number = λ spelling. refl;
   percentage = λ spelling. refl;
@@ -101,13 +83,13 @@ takes_any = record {
 }
 
 canonical_free : (root : Bool) (c : Calc) → holds_canonical c ≡ true → holds_no_font_unit root (calc_text c) ≡ true
-canonical_free root c h = text_fine (token_passes (is_other_unit root)) is_canonical (takes_canonical root) c (sym (canonical_units c) ∙ h)
+canonical_free root c h = texts_are_taken.calculation (token_passes (is_other_unit root)) is_canonical (takes_canonical root) c (sym (canonical_units c) ∙ h)
 
 pub texts_are_free : TextsAreFree
 texts_are_free = record {
   canonical = canonical_free;
   simplified = λ root x c. canonical_free root (simp x c) (simp_canonical x c);
-  number = λ root v u h. alone_fine (token_passes (is_other_unit root)) is_canonical (takes_canonical root) v u h;
-  number_no_ident = λ v u. alone_fine is_no_ident any takes_any v u refl;
-  no_ident = λ c. text_fine is_no_ident any takes_any c (holds_any c);
+  number = λ root v u h. texts_are_taken.number (token_passes (is_other_unit root)) is_canonical (takes_canonical root) v u h;
+  number_no_ident = λ v u. texts_are_taken.number is_no_ident any takes_any v u refl;
+  no_ident = λ c. texts_are_taken.calculation is_no_ident any takes_any c (holds_any c);
 }

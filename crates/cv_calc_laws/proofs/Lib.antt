@@ -8,7 +8,10 @@ pub mod Defined
 pub mod OneNumber
 pub mod FontUnits
 pub mod Folding
+pub mod NumbersAlike
 pub mod Contexts
+pub mod HeldUnits
+pub mod NoLengths
 pub mod ReadUnits
 pub mod Counts
 pub mod Measured
@@ -20,4 +23,5 @@ pub mod MixedFactors
 pub mod TypedTrees
 pub mod LengthNumber
 pub mod Written
+pub mod Taken
 pub mod Free

@@ -15,27 +15,15 @@ use Rattle.cv_calc.specs.declared.calc.Calc.TheVariants as tree
 use Rattle.cv_calc.specs.declared.calc.Calc.TheOpen.{Calc-F, Num, Min, Max, Clamp}
 use Rattle.cv_calc.specs.declared.calc.Calc.TheViews.{out-Calc, roll-Calc, roll-out-Calc}
 use Rattle.cv_calc.specs.declared.calc.Calc.TheFolds.{fold-roll-Calc}
-use Rattle.cv_calc.specs.Names.{unit_text}
 use Rattle.cv_calc.specs.Tree.{Each, by_cases}
 use Rattle.cv_simplify.specs.declared.place.Place.{Place}
 use Rattle.cv_simplify.specs.declared.place.Place.TheVariants.{Operand, Whole, Added, Multiplied, Argument}
 use Rattle.cv_simplify.specs.Text.{operator, closing, call, numeric, has_decimal, decimal_tokens, quotient_tokens, bracketed, number_tokens, number_alone, prefix, has_brackets, placed, number_added, number_placed, negative_placed, inverse_placed, Written, Line, no_line, with_child, with_rank, with_ranked, ranked, line_of, arguments_of, written, calc_text_as, calc_text}
 use Rattle.cv_simplify.proofs.Texts.{written-Num, written-Sum, written-Product, written-Negate, written-Invert, written-Min, written-Max, written-Clamp}
+use Rattle.cv_calc_laws.specs.Pieces.{TakesTexts}
 use Rattle.cv_calc_laws.specs.Units.{units_step, all_units}
 use Rattle.cv_calc_laws.proofs.Folding.{all-Num, all-Sum, all-Product, all-Negate, all-Invert, all-Min, all-Max, all-Clamp}
 use Rattle.cv_calc_laws.proofs.Lists.{Every, and_both, both_are}
-
--- the test takes the tokens of which texts are made; dimensions only of units that pass
-pub record TakesTexts (fine : Token → Bool) (test : units.Unit → Bool) : Type 0 where
-  pub white : fine tokens.White ≡ true
-  pub comma : fine tokens.Comma ≡ true
-  pub open_bracket : fine (tokens.Open Round) ≡ true
-  pub close_bracket : fine (tokens.Close Round) ≡ true
-  pub function : (name : List ℕ) → fine (tokens.Function name) ≡ true
-  pub delim : (c : ℕ) → fine (tokens.Delim c) ≡ true
-  pub number : (spelling : List ℕ) → fine (tokens.Number spelling) ≡ true
-  pub percentage : (spelling : List ℕ) → fine (tokens.Percentage spelling) ≡ true
-  pub dimension : (spelling : List ℕ) (u : units.Unit) → test u ≡ true → fine (tokens.Dimension spelling (unit_text u)) ≡ true
 
 module _ (fine : Token → Bool) (test : units.Unit → Bool) (takes : TakesTexts fine test) where
   abbrev AreFine : List Token → Type 0
@@ -56,8 +44,8 @@ module _ (fine : Token → Bool) (test : units.Unit → Bool) (takes : TakesText
   operator_fine : (c : ℕ) → AreFine (operator c)
   operator_fine c = then_fine tokens.White (tokens.Delim c ∷ tokens.White ∷ []) takes.white (then_fine (tokens.Delim c) (tokens.White ∷ []) (takes.delim c) (one_fine tokens.White takes.white))
 
-  call_fine : (name : List ℕ) (inner : List Token) → AreFine inner → AreFine (call name inner)
-  call_fine name inner h = then_fine (tokens.Function name) (inner ++ closing) (takes.function name) (joined_fine inner closing h (one_fine (tokens.Close Round) takes.close_bracket))
+  call_fine : (name : List ℕ) (inner : List Token) → fine (tokens.Function name) ≡ true → AreFine inner → AreFine (call name inner)
+  call_fine name inner f h = then_fine (tokens.Function name) (inner ++ closing) f (joined_fine inner closing h (one_fine (tokens.Close Round) takes.close_bracket))
 
   bracketed_fine : (b : Bool) (inner : List Token) → AreFine inner → AreFine (bracketed b inner)
   bracketed_fine true inner h = then_fine (tokens.Open Round) (inner ++ closing) takes.open_bracket (joined_fine inner closing h (one_fine (tokens.Close Round) takes.close_bracket))
@@ -85,7 +73,7 @@ module _ (fine : Token → Bool) (test : units.Unit → Bool) (takes : TakesText
 
   pub alone_fine : (v : Ratio) (u : units.Unit) → test u ≡ true → AreFine (number_alone v u)
   alone_fine v u h =
-      either_fine (has_decimal v) (decimal_tokens v u) (call (codes "calc") (quotient_tokens v u)) (decimal_fine v u h) (call_fine (codes "calc") (quotient_tokens v u) (quotient_fine v u h))
+      either_fine (has_decimal v) (decimal_tokens v u) (call (codes "calc") (quotient_tokens v u)) (decimal_fine v u h) (call_fine (codes "calc") (quotient_tokens v u) takes.calc (quotient_fine v u h))
 
   -- ---- places
 
@@ -154,8 +142,8 @@ module _ (fine : Token → Bool) (test : units.Unit → Bool) (takes : TakesText
   arguments_fine : (ws : List Written) → Every IsFine ws → AreFine (arguments_of ws)
   arguments_fine ws k = children_fine ws no_line k refl
 
-  called_fine : (name : List ℕ) (ws : List Written) (place : Place) → Every IsFine ws → AreFine (prefix place ++ call name (arguments_of ws))
-  called_fine name ws place k = joined_fine (prefix place) (call name (arguments_of ws)) (prefix_fine place) (call_fine name (arguments_of ws) (arguments_fine ws k))
+  called_fine : (name : List ℕ) (ws : List Written) (place : Place) → fine (tokens.Function name) ≡ true → Every IsFine ws → AreFine (prefix place ++ call name (arguments_of ws))
+  called_fine name ws place f k = joined_fine (prefix place) (call name (arguments_of ws)) (prefix_fine place) (call_fine name (arguments_of ws) f (arguments_fine ws k))
 
   -- ---- a tree
 
@@ -174,7 +162,7 @@ module _ (fine : Token → Bool) (test : units.Unit → Bool) (takes : TakesText
   clamp_fine a b c h k l q =
       let (front, third) = and_both (all_units test a && all_units test b) (all_units test c) (sym (all-Clamp test a b c) ∙ q) in
       let (first, second) = and_both (all_units test a) (all_units test b) front in
-      from_written (tree.Clamp a b c) _ (written-Clamp a b c) (λ place. called_fine (codes "clamp") (written a ∷ written b ∷ written c ∷ []) place (h first, (k second, (l third, tt))))
+      from_written (tree.Clamp a b c) _ (written-Clamp a b c) (λ place. called_fine (codes "clamp") (written a ∷ written b ∷ written c ∷ []) place takes.clamp (h first, (k second, (l third, tt))))
 
   pub writes_fine : (c : Calc) → WritesFine c
   writes_fine = by_cases WritesFine record {
@@ -183,8 +171,8 @@ module _ (fine : Token → Bool) (test : units.Unit → Bool) (takes : TakesText
     product = λ cs h k. from_written (tree.Product cs) _ (written-Product cs) (λ place. placed_fine place (line_of Multiplied (map written cs)) (line_fine Multiplied (map written cs) (each_fine cs h (sym (all-Product test cs) ∙ k))));
     negate = λ c h k. from_written (tree.Negate c) _ (written-Negate c) (λ place. negative_fine place ((written c).at_place Operand) (h (sym (all-Negate test c) ∙ k) Operand));
     invert = λ c h k. from_written (tree.Invert c) _ (written-Invert c) (λ place. inverse_fine place ((written c).at_place Operand) (h (sym (all-Invert test c) ∙ k) Operand));
-    min = λ cs h k. from_written (tree.Min cs) _ (written-Min cs) (λ place. called_fine (codes "min") (map written cs) place (each_fine cs h (sym (all-Min test cs) ∙ k)));
-    max = λ cs h k. from_written (tree.Max cs) _ (written-Max cs) (λ place. called_fine (codes "max") (map written cs) place (each_fine cs h (sym (all-Max test cs) ∙ k)));
+    min = λ cs h k. from_written (tree.Min cs) _ (written-Min cs) (λ place. called_fine (codes "min") (map written cs) place takes.min (each_fine cs h (sym (all-Min test cs) ∙ k)));
+    max = λ cs h k. from_written (tree.Max cs) _ (written-Max cs) (λ place. called_fine (codes "max") (map written cs) place takes.max (each_fine cs h (sym (all-Max test cs) ∙ k)));
     clamp = clamp_fine;
   }
 
@@ -197,7 +185,7 @@ module _ (fine : Token → Bool) (test : units.Unit → Bool) (takes : TakesText
   text_as_fine c (Min cs) e k h = h
   text_as_fine c (Max cs) e k h = h
   text_as_fine c (Clamp a b d) e k h = h
-  text_as_fine c _ e k h = call_fine (codes "calc") ((written c).at_place Whole) h
+  text_as_fine c _ e k h = call_fine (codes "calc") ((written c).at_place Whole) takes.calc h
 
   pub text_fine : (c : Calc) → all_units test c ≡ true → AreFine (calc_text c)
   unfolding calc_text

@@ -1,3 +1,5 @@
 pub mod Units
 pub mod Single
 pub mod Fonts
+pub mod OfType
+pub mod Pieces

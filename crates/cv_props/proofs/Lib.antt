@@ -1,6 +1,7 @@
 mod TableTest
 pub mod KeyOrder
 mod Outcomes
+mod Tries
 mod Entries
 mod Keeping
 mod Numbered

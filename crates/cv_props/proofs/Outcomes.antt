@@ -18,22 +18,22 @@ use Rattle.cv_props.proofs.KeyOrder.{equal_keys, key_cmp_total, key_cmp_antisymm
 abbrev Entry : Type 0
 Entry = Key × Outcome
 
-abbrev tokens_of : Outcome → Option (List Token)
+abbrev pub tokens_of : Outcome → Option (List Token)
 tokens_of (Tokens tokens) = Some tokens
 tokens_of Invalid = None
 
 -- the tokens of the first entry for a key
-abbrev first_tokens : Key → List Entry → Option (List Token)
+abbrev pub first_tokens : Key → List Entry → Option (List Token)
 first_tokens key [] = None
 first_tokens key (e ∷ es) = cond (same_key key e.0) (tokens_of e.1) (first_tokens key es)
 
-get-with_outcome : (values : Values) (key : Key) (outcome : Outcome) (q : Key) → map.get (with_outcome values key outcome) q ≡ cond (same_key q key) (tokens_of outcome) (map.get values q)
+pub get-with_outcome : (values : Values) (key : Key) (outcome : Outcome) (q : Key) → map.get (with_outcome values key outcome) q ≡ cond (same_key q key) (tokens_of outcome) (map.get values q)
 get-with_outcome values key (Tokens tokens) q =
     map.get-insert key_cmp_total values key tokens q ∙ ap (λ b. cond b (Some tokens) (map.get values q)) (tied_keys q key)
 get-with_outcome values key Invalid q =
     map.get-remove key_cmp_total values key q ∙ ap (λ b. cond b None (map.get values q)) (tied_keys q key)
 
-get-valuation_of : (es : List Entry) (q : Key) → map.get (valuation_of es) q ≡ first_tokens q es
+pub get-valuation_of : (es : List Entry) (q : Key) → map.get (valuation_of es) q ≡ first_tokens q es
 get-valuation_of [] q = map.get-empty key_cmp q
 get-valuation_of (e ∷ es) q =
     get-with_outcome (valuation_of es) e.0 e.1 q ∙ ap (cond (same_key q e.0) (tokens_of e.1)) (get-valuation_of es q)
@@ -76,7 +76,7 @@ valuation_of-insert_entry es key outcome =
     ∙ sym (get-with_outcome (valuation_of es) key outcome q ∙ ap (cond (same_key q key) (tokens_of outcome)) (get-valuation_of es q)))
 
 -- the outcome of a key is that of its entry
-outcome_of-tokens_of : (outcome : Outcome) → outcome_of (tokens_of outcome) ≡ outcome
+pub outcome_of-tokens_of : (outcome : Outcome) → outcome_of (tokens_of outcome) ≡ outcome
 outcome_of-tokens_of (Tokens tokens) = refl
 outcome_of-tokens_of Invalid = refl
 

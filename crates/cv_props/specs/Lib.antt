@@ -3,6 +3,7 @@ pub mod Keys
 pub mod KeyLaws
 pub mod TableLaws
 pub mod Valuations
+pub mod Tries
 pub mod ValuationLaws
 pub mod Winners
 pub mod WinnerLaws

@@ -10,6 +10,7 @@ mod outcome;
 mod property;
 mod registry;
 mod style;
+mod trie;
 
 pub use computed::{Cause, Computed};
 pub use decls::{Decl, Decls};

@@ -2,14 +2,12 @@
 ghost use Rattle.std.specs.Prelude.{◌≡◌, ◌++◌, IfOk, OnOk, OnErr};
 ghost use Rattle.std.specs.FinMap as map;
 ghost use Rattle.cv_spec_text.specs.Printing.{bytes};
-ghost use Rattle.indexmap.specs.IndexMap.{insert_entry};
-ghost use Rattle.cv_props.specs.Keys.{same_key};
 ghost use Rattle.cv_props.specs.Valuations.{MayKeep, outcome_at, outcome_text, spaced, with_outcome};
 
 use crate::key::Key;
+use crate::trie::{Trie, found, path_of, put, shared};
 use cv_spec_text::{Run, Token};
 use cv_tokser::print;
-use indexmap::IndexMap;
 use std::alloc::{AllocError, Global};
 use std::marker::Model;
 
@@ -36,14 +34,16 @@ impl Outcome {
 /// the keys whose outcomes aren't invalid to their tokens.
 #[derive(Drop)]
 pub struct Valuation {
-    outcomes: IndexMap<Key, Outcome>,
+    alloc: Global,
+    outcomes: Trie,
     invalid: Outcome,
 }
 
 impl Model for Valuation {
-    ghost use Rattle.std.specs.Prelude.{◌≡◌, All};
+    ghost use Rattle.std.specs.Prelude.{◌≡◌};
     ghost use Rattle.cv_props.specs.declared.outcome.Outcome.TheVariants.{Invalid};
-    ghost use Rattle.cv_props.specs.Valuations.{IsKeptEntry, Values, valuation_of};
+    ghost use Rattle.cv_props.specs.Valuations.{Values};
+    ghost use Rattle.cv_props.specs.Tries.{AreKeptIn, values_in};
 
     ghost Value = { Values };
 
@@ -54,9 +54,9 @@ impl Model for Valuation {
 
     ghost coded = { code keys.the_row.coded (coded_list tokens.the_row.coded) };
 
-    ghost view = { λ valuation. valuation_of valuation.outcomes.entries };
+    ghost view = { λ valuation. values_in valuation.outcomes };
 
-    ghost invariant = { λ valuation. All IsKeptEntry valuation.outcomes.entries × (valuation.invalid ≡ Invalid) };
+    ghost invariant = { λ valuation. AreKeptIn valuation.outcomes × (valuation.invalid ≡ Invalid) };
 }
 
 impl Valuation {
@@ -65,7 +65,8 @@ impl Valuation {
         ensures { result ≡ map.empty }
     {
         Valuation {
-            outcomes: IndexMap::new(alloc),
+            alloc,
+            outcomes: Trie::Leaf,
             invalid: Outcome::Invalid,
         }
     }
@@ -76,7 +77,8 @@ impl Valuation {
         ensures ok { OnOk result (self.new ≡ with_outcome self.old key outcome) }
         ensures err { OnErr result (self.new ≡ self.old) }
     {
-        self.outcomes.insert(key, outcome)?;
+        let path = path_of(&key);
+        self.outcomes = put(self.alloc, &self.outcomes, path, key, outcome)?;
         Ok(())
     }
 
@@ -85,7 +87,7 @@ impl Valuation {
         ensures outcome { result.now ≡ outcome_at self.now key.now }
         ensures kept { MayKeep key.now result.now }
     {
-        match self.outcomes.get(key) {
+        match found(&self.outcomes, path_of(key), key) {
             Some(outcome) => outcome,
             None => &self.invalid,
         }
@@ -93,7 +95,7 @@ impl Valuation {
 
     // The allocator of the outcomes.
     pub(crate) fn allocator(&self) -> Global {
-        *self.outcomes.allocator()
+        self.alloc
     }
 
     /// The same outcomes again.
@@ -101,31 +103,11 @@ impl Valuation {
         ensures { IfOk result (λ valuation. valuation ≡ self.now) }
     {
         Ok(Valuation {
-            outcomes: copied(&self.outcomes)?,
+            alloc: self.alloc,
+            outcomes: shared(&self.outcomes)?,
             invalid: Outcome::Invalid,
         })
     }
-}
-
-fn copied(outcomes: &IndexMap<Key, Outcome>) -> Result<IndexMap<Key, Outcome>, AllocError>
-    ensures { IfOk result (λ all. all.entries ≡ outcomes.now.entries) }
-{
-    let mut all = IndexMap::new(*outcomes.allocator());
-    for (key, outcome) in outcomes.iter() {
-        add_copy(&mut all, key, outcome)?;
-    }
-    Ok(all)
-}
-
-fn add_copy(
-    all: &mut IndexMap<Key, Outcome>,
-    key: &Key,
-    outcome: &Outcome,
-) -> Result<(), AllocError>
-    ensures { OnOk result (all.new.entries ≡ insert_entry same_key all.old.entries key.now outcome.now) }
-{
-    all.insert(key.copy()?, outcome.copy()?)?;
-    Ok(())
 }
 
 /// Adds the outcome as the report writes it: `invalid`, or `=` and behind a space the tokens if there are any.

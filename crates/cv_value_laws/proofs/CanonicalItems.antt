@@ -34,10 +34,10 @@ use Rattle.cv_numeric.specs.Calculations.{simplified, is_within, literal, plain,
 use Rattle.cv_numeric.specs.Numeric as numeric
 use Rattle.cv_syntax.specs.declared.syntax.Kind.{Kind}
 use Rattle.cv_syntax.specs.declared.syntax.Kind.TheVariants as kinds
-use Rattle.cv_value.specs.declared.typed.Item.{Item}
 use Rattle.cv_value.specs.declared.typed.Item.TheVariants as item_of
 use Rattle.cv_value.specs.Items.{mixed_as, mixed_item, is_end, url_inside, url, string, is_reserved, custom_ident, literal as literal_item, item}
 use Rattle.cv_colorread.specs.Colors.{color}
+use Rattle.cv_value_laws.specs.Values.{IsCanonical}
 use Rattle.cv_value_laws.proofs.Fits.{IfFit, if_mapped, if_made, if_either}
 
 abbrev IsPure : Calc → Type 0
@@ -92,11 +92,6 @@ mixed_length_pure r x (token.Number n ∷ []) = if_made IsPure (λ v. tree.Num v
 mixed_length_pure r x ts = calculation_pure quantity.LengthPercentage r x ts
 
 -- ---- items
-
--- what is written as a calculation is in canonical units
-abbrev pub IsCanonical : Item → Type 0
-IsCanonical (item_of.Mixed c) = holds_canonical c ≡ true
-IsCanonical i = Unit {0}
 
 mixed_canonical : (c : Calc) (l : Calc-F Calc) → roll-Calc l ≡ c → IsPure c → IsCanonical (mixed_as c l)
 mixed_canonical c (layer.Num v Px) e h = tt

@@ -16,10 +16,10 @@ use Rattle.cv_syntax.specs.declared.syntax.Component.{Component}
 use Rattle.cv_syntax.specs.declared.syntax.Syntax.{Syntax}
 use Rattle.cv_syntax.specs.declared.syntax.Syntax.TheVariants.{Any, Of}
 use Rattle.cv_value.specs.declared.typed.Item.{Item}
-use Rattle.cv_value.specs.declared.typed.Typed.{Typed}
 use Rattle.cv_value.specs.declared.typed.Typed.TheVariants.{One, Spaces, Commas}
 use Rattle.cv_value.specs.Items.{item}
 use Rattle.cv_value.specs.Matching.{each, listed, as_many, component, components, of_syntax, matching}
+use Rattle.cv_value_laws.specs.Values.{OfItems}
 use Rattle.cv_value_laws.proofs.Passing.{ByTokens, parts_pass, filled_pass, trims_pass}
 
 -- it holds of the value, where there is a fit
@@ -63,12 +63,6 @@ if_more P Out (Fit rest) h k = tt
 if_more P (Fit a) No h k = tt
 if_more P (Fit a) Out h k = tt
 if_more P (Fit a) (Fit rest) h k = (h, k)
-
--- it holds of each item of the value
-abbrev pub OfItems : (Item → Type 0) → Typed → Type 0
-OfItems Q (One i) = Q i
-OfItems Q (Spaces is) = Every Q is
-OfItems Q (Commas is) = Every Q is
 
 -- what holds of each token, and of each list
 abbrev pub AnyToken : Token → Type 0

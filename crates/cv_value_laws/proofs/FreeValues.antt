@@ -23,8 +23,9 @@ use Rattle.cv_value.specs.Text.{item_text, separator, further_text, list_text, t
 use Rattle.cv_calc_laws.specs.Fonts.{is_other_unit, holds_no_font_unit}
 use Rattle.cv_calc_laws.specs.Units.{token_passes}
 use Rattle.cv_calc_laws.proofs.Free.{texts_are_free}
-use Rattle.cv_value_laws.proofs.CanonicalItems.{IsCanonical, item_canonical}
-use Rattle.cv_value_laws.proofs.Fits.{OfItems, of_fit, AnyToken, AnyList, if_matching, each_syntax}
+use Rattle.cv_value_laws.specs.Values.{IsCanonical, OfItems}
+use Rattle.cv_value_laws.proofs.CanonicalItems.{item_canonical}
+use Rattle.cv_value_laws.proofs.Fits.{of_fit, AnyToken, AnyList, if_matching, each_syntax}
 use Rattle.cv_value_laws.proofs.Passing.{by_test, by_any, joined_pass}
 
 module _ (root : Bool) where
@@ -74,12 +75,12 @@ module _ (root : Bool) where
   list_free separator s [] h = refl
   list_free separator s (i ∷ is) h = joined_free (item_text i) (further_text separator is) (item_free i h.0) (further_free separator s is h.1)
 
-  typed_free : (v : Typed) → OfItems IsCanonical v → Free (typed_text v)
+  pub typed_free : (v : Typed) → OfItems IsCanonical v → Free (typed_text v)
   unfolding typed_text
   typed_free (One i) h = item_free i h
   typed_free (Spaces is) h = list_free (separator false) refl is h
   typed_free (Commas is) h = list_free (separator true) refl is h
 
-pub values_free : (root : Bool) (s : Syntax) (x : Context) (ts : List Token) (v : Typed) → matching s x ts ≡ Fit v → holds_no_font_unit root (typed_text v) ≡ true
-values_free root s x ts v e =
-    typed_free root v (of_fit (OfItems IsCanonical) (matching s x ts) v (if_matching AnyToken AnyList by_any IsCanonical x s (each_syntax AnyToken AnyList by_any IsCanonical x (λ k us any. item_canonical k x us) s) ts tt) e)
+pub values_canonical : (s : Syntax) (x : Context) (ts : List Token) (v : Typed) → matching s x ts ≡ Fit v → OfItems IsCanonical v
+values_canonical s x ts v e =
+    of_fit (OfItems IsCanonical) (matching s x ts) v (if_matching AnyToken AnyList by_any IsCanonical x s (each_syntax AnyToken AnyList by_any IsCanonical x (λ k us any. item_canonical k x us) s) ts tt) e

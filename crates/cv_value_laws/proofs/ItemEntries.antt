@@ -1,7 +1,7 @@
 -- The text of each item is an entry of a list, and the text of a list is that of its items.
-use Rattle.std.specs.Prelude.{◌≡◌, false, List, [], ◌∷◌, ◌++◌, map, codes, All}
+use Rattle.std.specs.Prelude.{◌≡◌, true, false, List, [], ◌∷◌, ◌++◌, map, codes, All}
 use Rattle.std.specs.Fmt.{signed_decimal}
-use Rattle.std.proofs.Common.{refl, ◌∙◌, ap}
+use Rattle.std.proofs.Common.{refl, sym, ◌∙◌, ap}
 use Rattle.std.proofs.lemmas.List.Elements.{All-nil, All-cons}
 use Rattle.cv_spec_text.specs.declared.token.Bracket.TheVariants.{Round}
 use Rattle.cv_spec_text.specs.declared.token.Token.{Token}
@@ -11,10 +11,12 @@ use Rattle.cv_parts.specs.Parts.{is_white, is_comma, parts, filled, trim, has_wh
 use Rattle.cv_calc.specs.declared.unit.Unit.TheVariants as units
 use Rattle.cv_value.specs.declared.typed.Item.{Item}
 use Rattle.cv_value.specs.declared.typed.Item.TheVariants.{Number, Integer, Percentage, Length, Mixed, Angle, Time, Resolution, Color, Url, Str, Ident}
-use Rattle.cv_value.specs.declared.typed.Typed.TheVariants.{Spaces, Commas}
+use Rattle.cv_value.specs.declared.typed.Typed.{Typed}
+use Rattle.cv_value.specs.declared.typed.Typed.TheVariants.{One, Spaces, Commas}
 use Rattle.cv_value.specs.Text.{item_text, separator, further_text, list_text, typed_text}
 use Rattle.cv_value_laws.specs.Entries.{preserved, block, IsEntry}
 use Rattle.cv_value_laws.specs.Lists.{further, joined, TextsAreSplit}
+use Rattle.cv_value_laws.proofs.Ends.{entry_ends, trim_kept}
 use Rattle.cv_value_laws.proofs.Joined.{entries_are_split}
 use Rattle.cv_value_laws.proofs.TextEntries.{number_entry, text_entry, color_entry}
 
@@ -69,6 +71,17 @@ ends_full : (separator : List Token) (i : Item) (is : List Item) → has_white_e
 ends_full separator i is =
     ap has_white_end (list_joined separator i is) ∙ entries_are_split.no_white_end separator (item_text i) (map item_text is) (each_entry (i ∷ is))
 
+list_trimmed : (separator : List Token) (is : List Item) → trim (list_text separator is) ≡ list_text separator is
+list_trimmed separator [] = refl
+list_trimmed separator (i ∷ is) =
+    ap trim (list_joined separator i is) ∙ entries_are_split.trimmed separator (item_text i) (map item_text is) (each_entry (i ∷ is)) ∙ sym (list_joined separator i is)
+
+typed_trimmed : (v : Typed) → trim (typed_text v) ≡ typed_text v
+unfolding typed_text
+typed_trimmed (One i) = let entry : IsEntry (item_text i) = item_entry i in trim_kept (item_text i) entry.not_white (entry_ends (item_text i) entry)
+typed_trimmed (Spaces is) = list_trimmed (separator false) is
+typed_trimmed (Commas is) = list_trimmed (separator true) is
+
 pub texts_are_split : TextsAreSplit
 unfolding typed_text white comma
 texts_are_split = record {
@@ -77,4 +90,5 @@ texts_are_split = record {
   separated = separated;
   spaces_end = λ i is. ends_full white i is;
   commas_end = λ i is. ends_full comma i is;
+  trimmed = typed_trimmed;
 }

@@ -95,9 +95,15 @@ no_white_end separator e es all =
     let each : Each IsEntry (e ∷ es) = recursion_from_All IsEntry (e ∷ es) all in
     no_white_ends (joined separator (e ∷ es)) (joined_begins e each.0.value (further separator es) ∙ each.0.not_white) (joined_ends separator e es each)
 
+trimmed : (separator : List Token) (e : List Token) (es : List (List Token)) → All IsEntry (e ∷ es) → trim (joined separator (e ∷ es)) ≡ joined separator (e ∷ es)
+trimmed separator e es all =
+    let each : Each IsEntry (e ∷ es) = recursion_from_All IsEntry (e ∷ es) all in
+    trim_kept (joined separator (e ∷ es)) (joined_begins e each.0.value (further separator es) ∙ each.0.not_white) (joined_ends separator e es each)
+
 pub entries_are_split : EntriesAreSplit
 entries_are_split = record {
   spaced = spaced;
   separated = separated;
   no_white_end = no_white_end;
+  trimmed = trimmed;
 }

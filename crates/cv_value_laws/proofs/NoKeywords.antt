@@ -37,16 +37,11 @@ use Rattle.cv_calc_laws.specs.Fonts.{is_no_ident}
 use Rattle.cv_calc_laws.proofs.Free.{texts_are_free}
 use Rattle.cv_calc_laws.proofs.Lists.{and_both, false_true}
 use Rattle.cv_value_laws.specs.Entries.{IsComponentValue, preserved, block}
-use Rattle.cv_value_laws.specs.Values.{is_keyword, is_no_keyword, has_no_keyword, ValuesAreFree}
-use Rattle.cv_value_laws.proofs.Fits.{AnyToken, AnyList, IfFit, OfItems, OfComponents, OfSyntax, of_fit, if_made, if_either, if_matching}
-use Rattle.cv_value_laws.proofs.FreeValues.{values_free}
+use Rattle.cv_value_laws.specs.Values.{is_keyword, is_no_keyword, has_no_keyword, ValuesAreFree, NoKeyword, OfItems, ItemsAreFree}
+use Rattle.cv_value_laws.proofs.Fits.{AnyToken, AnyList, IfFit, OfComponents, OfSyntax, of_fit, if_made, if_either, if_matching}
+use Rattle.cv_value_laws.proofs.FreeValues.{typed_free, values_canonical}
 use Rattle.cv_value_laws.proofs.ItemEntries.{item_entry}
 use Rattle.cv_value_laws.proofs.Passing.{by_any}
-
--- an ident is no CSS-wide keyword
-abbrev NoKeyword : Item → Type 0
-NoKeyword (item_of.Ident name) = is_css_wide_keyword name ≡ false
-NoKeyword i = Unit {0}
 
 -- ---- items
 
@@ -174,8 +169,19 @@ typed_no_keyword (One i) h = item_no_keyword i h
 typed_no_keyword (Spaces is) h = list_no_keyword tokens.White [] is h
 typed_no_keyword (Commas is) h = list_no_keyword tokens.Comma (tokens.White ∷ []) is h
 
-no_keyword : (s : Syntax) → has_no_keyword s ≡ true → (x : Context) (ts : List Token) (v : Typed) → matching s x ts ≡ Fit v → is_keyword (typed_text v) ≡ false
-no_keyword s h x ts v e = typed_no_keyword v (of_fit (OfItems NoKeyword) (matching s x ts) v (if_matching AnyToken AnyList by_any NoKeyword x s (syntax_other s h x) ts tt) e)
+values_no_keyword : (s : Syntax) → has_no_keyword s ≡ true → (x : Context) (ts : List Token) (v : Typed) → matching s x ts ≡ Fit v → OfItems NoKeyword v
+values_no_keyword s h x ts v e = of_fit (OfItems NoKeyword) (matching s x ts) v (if_matching AnyToken AnyList by_any NoKeyword x s (syntax_other s h x) ts tt) e
+
+pub items_are_free : ItemsAreFree
+items_are_free = record {
+  are_canonical = values_canonical;
+  are_no_keyword = values_no_keyword;
+  no_font_unit = typed_free;
+  no_keyword = typed_no_keyword;
+}
 
 pub values_are_free : ValuesAreFree
-values_are_free = record { no_font_unit = values_free; no_keyword = no_keyword }
+values_are_free = record {
+  no_font_unit = λ root s x ts v e. typed_free root v (values_canonical s x ts v e);
+  no_keyword = λ s h x ts v e. typed_no_keyword v (values_no_keyword s h x ts v e);
+}

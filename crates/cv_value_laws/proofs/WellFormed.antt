@@ -3,7 +3,7 @@ use Rattle.std.specs.Prelude.{◌≡◌, ℕ, ℤ, pos, negsuc, suc, Bool, true,
 use Rattle.std.specs.Fmt.{signed_decimal}
 use Rattle.std.specs.List.{AllByRecursion as Every}
 use Rattle.std.proofs.Common.{refl, sym, ◌∙◌, ap, subst, arith}
-use Rattle.std.proofs.lemmas.List.Elements.{All-weaker, All-contains_itself}
+use Rattle.std.proofs.lemmas.List.Elements.{All-nil, All-cons, All-weaker, All-contains_itself, recursion_from_All}
 use Rattle.std.proofs.lemmas.Str.{chars-encodes}
 use Rattle.cv_spec_text.specs.Keywords.{is_word}
 use Rattle.cv_spec_text.specs.Printing.{written, bytes}
@@ -49,9 +49,10 @@ use Rattle.cv_value.specs.declared.typed.Typed.TheVariants.{One, Spaces, Commas}
 use Rattle.cv_value.specs.Items.{mixed_as, mixed_item, is_end, url_inside, url, string, is_reserved, custom_ident, literal, item}
 use Rattle.cv_value.specs.Matching.{matching}
 use Rattle.cv_value.specs.Text.{item_text, separator, further_text, list_text, typed_text}
-use Rattle.cv_value_laws.specs.Texts.{TextsAreSpelt}
-use Rattle.cv_value_laws.proofs.CleanLists.{typed_clean}
-use Rattle.cv_value_laws.proofs.Fits.{IfFit, OfItems, of_fit, if_made, if_either, if_matching, each_syntax}
+use Rattle.cv_value_laws.specs.Texts.{HasSpeltNames, TextsAreSpelt}
+use Rattle.cv_value_laws.specs.Values.{OfItems}
+use Rattle.cv_value_laws.proofs.CleanLists.{item_clean, typed_clean}
+use Rattle.cv_value_laws.proofs.Fits.{IfFit, of_fit, if_made, if_either, if_matching, each_syntax}
 use Rattle.cv_value_laws.proofs.Passing.{ByTokens, joined_pass, front_pass}
 
 by : ByTokens IsWellFormed AreWellFormed
@@ -203,16 +204,57 @@ typed_well (One i) h = item_well i h
 typed_well (Spaces is) h = list_well (separator false) (tt, tt) is h
 typed_well (Commas is) h = list_well (separator true) (tt, (tt, tt)) is h
 
--- ---- the law
+-- ---- the laws
+
+values_read : (s : Syntax) (x : Context) (ts : List Token) (v : Typed) → All IsSpelt ts → matching s x ts ≡ Fit v → OfItems IsRead v
+values_read s x ts v all e =
+    of_fit (OfItems IsRead) (matching s x ts) v
+    (if_matching IsWellFormed AreWellFormed by IsRead x s (each_syntax IsWellFormed AreWellFormed by IsRead x (λ k us h. item_read k x us h) s) ts (are_well_formed ts all)) e
+
+read_spelt : (v : Typed) → OfItems IsRead v → All IsSpelt (typed_text v)
+read_spelt v h = all_spelt (typed_text v) (typed_clean v) (typed_well v h)
+
+-- a token is one of a text where it is well formed
+token_well : (t : Token) → IsSpelt t → IsWellFormed t
+token_well t h = (are_well_formed (t ∷ []) (All-cons IsSpelt t [] h (All-nil IsSpelt))).0
+
+one_spelt : (t : Token) → IsClean (t ∷ []) → IsWellFormed t → IsSpelt t
+one_spelt t clean h = (recursion_from_All IsSpelt (t ∷ []) (all_spelt (t ∷ []) clean (h, tt))).0
+
+names_read : (i : Item) → HasSpeltNames i → IsRead i
+names_read (item_of.Url text) h = token_well (tokens.Str text) h
+names_read (item_of.Str text) h = token_well (tokens.Str text) h
+names_read (item_of.Ident name) h = token_well (tokens.Ident name) h
+names_read i h = tt
+
+names_spelt : (i : Item) → IsRead i → HasSpeltNames i
+names_spelt (item_of.Url text) h = one_spelt (tokens.Str text) (item_clean (item_of.Str text)) h
+names_spelt (item_of.Str text) h = one_spelt (tokens.Str text) (item_clean (item_of.Str text)) h
+names_spelt (item_of.Ident name) h = one_spelt (tokens.Ident name) (item_clean (item_of.Ident name)) h
+names_spelt i h = tt
+
+-- what follows of each item follows of the items of a value
+module _ (P Q : Item → Type 0) (h : (i : Item) → P i → Q i) where
+  each_item : (is : List Item) → Every P is → Every Q is
+  each_item [] k = tt
+  each_item (i ∷ is) k = (h i k.0, each_item is k.1)
+
+  of_each : (v : Typed) → OfItems P v → OfItems Q v
+  of_each (One i) k = h i k
+  of_each (Spaces is) k = each_item is k
+  of_each (Commas is) k = each_item is k
 
 spelt : (s : Syntax) (x : Context) (ts : List Token) (v : Typed) → All IsSpelt ts → matching s x ts ≡ Fit v → All IsSpelt (typed_text v)
-spelt s x ts v all e =
-    let kinds : OfItems IsRead v = of_fit (OfItems IsRead) (matching s x ts) v
-    (if_matching IsWellFormed AreWellFormed by IsRead x s (each_syntax IsWellFormed AreWellFormed by IsRead x (λ k us h. item_read k x us h) s) ts (are_well_formed ts all)) e in
-    all_spelt (typed_text v) (typed_clean v) (typed_well v kinds)
+spelt s x ts v all e = read_spelt v (values_read s x ts v all e)
+
+of_items : (v : Typed) → OfItems HasSpeltNames v → All IsSpelt (typed_text v)
+of_items v h = read_spelt v (of_each HasSpeltNames IsRead names_read v h)
 
 pub texts_are_spelt : TextsAreSpelt
 texts_are_spelt = record {
   spelt = spelt;
   read = λ s x ts v all e. clean_back (typed_text v) (typed_clean v) (spelt s x ts v all e);
+  are_spelt = λ s x ts v all e. of_each IsRead HasSpeltNames names_spelt v (values_read s x ts v all e);
+  of_items = of_items;
+  items_read = λ v h. clean_back (typed_text v) (typed_clean v) (of_items v h);
 }

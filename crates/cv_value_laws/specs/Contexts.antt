@@ -1,14 +1,17 @@
 -- What of matching doesn't depend on a context (this project's own; which units are relative to a font: CSS Values and Units 4,
 -- "Font-relative Lengths").
-use Rattle.std.specs.Prelude.{◌≡◌, Bool, true, List}
+use Rattle.std.specs.Prelude.{◌≡◌, Bool, true, false, List}
+use Rattle.std.specs.List.{list_all}
 use Rattle.cv_spec_text.specs.declared.token.Token.{Token}
 use Rattle.cv_calc.specs.declared.context.Context.{Context}
 use Rattle.cv_numeric.specs.declared.matched.Matched.{Matched}
 use Rattle.cv_numeric.specs.declared.quantity.Range.{Range}
 use Rattle.cv_numeric.specs.Numeric.{number, percentage, angle, time, resolution, length, length_percentage, integer}
 use Rattle.cv_syntax.specs.declared.syntax.Kind.{Kind}
+use Rattle.cv_syntax.specs.declared.syntax.Kind.TheVariants.{Length, LengthPercentage}
 use Rattle.cv_syntax.specs.declared.syntax.Component.{Component}
 use Rattle.cv_syntax.specs.declared.syntax.Syntax.{Syntax}
+use Rattle.cv_syntax.specs.declared.syntax.Syntax.TheVariants.{Any, Of}
 use Rattle.cv_value.specs.Items.{item}
 use Rattle.cv_value.specs.Matching.{component, matching}
 use Rattle.cv_calc_laws.specs.Fonts.{holds_no_font_unit, DifferInFonts}
@@ -33,3 +36,32 @@ pub record MatchesAlike : Type 0 where
   pub item_is : (k : Kind) → ReadsAlike (item k)
   pub component_is : (c : Component) → ReadsAlike (λ x ts. component x ts c)
   pub matching_is : (s : Syntax) → ReadsAlike (matching s)
+
+-- ---- without lengths
+
+-- each list, whatever units it holds, is read alike in every two contexts
+abbrev pub IgnoresContext : {A : Type 0} → (Context → List Token → Matched A) → Type 0
+IgnoresContext f = (x y : Context) (ts : List Token) → f x ts ≡ f y ts
+
+pub record NumbersIgnoreContexts : Type 0 where
+  pub number_is : (r : Range) → IgnoresContext (number r)
+  pub percentage_is : IgnoresContext percentage
+  pub angle_is : IgnoresContext angle
+  pub time_is : IgnoresContext time
+  pub resolution_is : IgnoresContext resolution
+  pub integer_is : IgnoresContext integer
+
+-- no item of the kind is a length, and no component of the syntax has lengths
+abbrev pub is_no_length : Kind → Bool
+is_no_length Length = false
+is_no_length LengthPercentage = false
+is_no_length k = true
+
+abbrev pub has_no_length : Syntax → Bool
+has_no_length Any = true
+has_no_length (Of cs) = list_all (λ (c : Component). is_no_length c.kind) cs
+
+pub record MatchesIgnoreContexts : Type 0 where
+  pub item_is : (k : Kind) → is_no_length k ≡ true → IgnoresContext (item k)
+  pub component_is : (c : Component) → is_no_length c.kind ≡ true → IgnoresContext (λ x ts. component x ts c)
+  pub matching_is : (s : Syntax) → has_no_length s ≡ true → IgnoresContext (matching s)

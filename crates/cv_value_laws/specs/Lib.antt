@@ -3,3 +3,5 @@ pub mod Entries
 pub mod Lists
 pub mod Values
 pub mod Texts
+pub mod Functions
+pub mod Sizes

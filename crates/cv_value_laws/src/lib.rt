@@ -3,10 +3,14 @@
 
 mod contexts;
 mod lists;
+mod sizes;
 mod texts;
 mod values;
 
-pub use contexts::{matches_alike, numbers_read_alike};
+pub use contexts::{
+    matches_alike, matches_ignore_contexts, numbers_ignore_contexts, numbers_read_alike,
+};
 pub use lists::{entries_are_split, texts_are_split};
-pub use texts::{texts_are_clean, texts_are_spelt};
-pub use values::{syntaxes_have_no_keyword, values_are_free};
+pub use sizes::sizes_are_numbers;
+pub use texts::{texts_are_clean, texts_are_spelt, values_are_taken};
+pub use values::{items_are_free, syntaxes_have_no_keyword, values_are_free};

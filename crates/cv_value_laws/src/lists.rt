@@ -10,7 +10,7 @@ pub fn entries_are_split()
 {}
 
 /// The text of each item is one component value, a token or a function. So the parts of the text of a list are the texts of its items:
-/// those of `red, rgb(0, 0, 0)` are `red` and `rgb(0, 0, 0)`.
+/// those of `red, rgb(0, 0, 0)` are `red` and `rgb(0, 0, 0)`. And no text has whitespace at its ends: trimmed, it is itself.
 pub fn texts_are_split()
     ensures { TextsAreSplit }
 {}

@@ -1,18 +1,19 @@
-use Rattle.std.proofs.Common.{◌∙◌, ap, sym, subst}
-use Rattle.std.specs.Prelude.{All}
-use Rattle.cv_props.specs.Valuations.{IsKeptEntry, valuation_of, with_outcome}
-use Rattle.cv_props.proofs.Outcomes.{valuation_of-insert_entry}
-use Rattle.cv_props.proofs.Entries.{All-insert_entry}
+use Rattle.std.proofs.Common.{◌∙◌, ap, subst}
+use Rattle.cv_props.specs.Valuations.{with_outcome}
+use Rattle.cv_props.specs.Tries.{Sets}
+use Rattle.cv_props.proofs.Tries.{values_in-Sets, AreKeptIn-Sets}
 use Rattle.cv_props.proofs.outcome.Valuation.put.Goals as goal
+
+pub invariant_of-self : goal.invariant_of-self
+invariant_of-self c =
+    let old = c.self.inside.outcomes in
+    let new = c.in_ok-self-inside.field-0 in
+    let sets = subst (λ path. Sets old new path c.args.key c.args.outcome) c.path_of-path.ensures c.in_ok-self-inside.ensures in
+    (AreKeptIn-Sets old new c.args.key c.args.outcome sets c.self.invariant.0 c.requires, c.self.invariant.1)
 
 pub returns-clause-ok : goal.returns-clause-ok
 returns-clause-ok c =
-    ap valuation_of c.in_ok-insert.ensures.entries
-    ∙ valuation_of-insert_entry c.self.inside.outcomes.entries c.args.key c.args.outcome
-    ∙ ap (λ values. with_outcome values c.args.key c.args.outcome) c.self.view_is
-
-pub invariant_of-self-2 : goal.invariant_of-self-2
-invariant_of-self-2 c = (
-  subst (All IsKeptEntry) (sym c.in_ok-insert.ensures.entries) (All-insert_entry IsKeptEntry c.self.inside.outcomes.entries c.args.key c.args.outcome c.self.invariant.0 c.requires),
-  c.self.invariant.1,
-)
+    let old = c.self.inside.outcomes in
+    let new = c.in_ok-self-inside.field-0 in
+    let sets = subst (λ path. Sets old new path c.args.key c.args.outcome) c.path_of-path.ensures c.in_ok-self-inside.ensures in
+    values_in-Sets old new c.args.key c.args.outcome sets ∙ ap (λ values. with_outcome values c.args.key c.args.outcome) c.self.view_is
