@@ -4,10 +4,10 @@ use Rattle.std.proofs.Common.{◌≡◌, refl, sym, ◌∙◌, ap, ap₂}
 use Rattle.std.specs.Ordering.{is_le, ordering_reverse}
 use Rattle.std.specs.declared.cmp.Ordering.{Ordering}
 use Rattle.std.specs.declared.cmp.Ordering.TheVariants.{Less, Equal, Greater}
-use Rattle.cv_ratio.specs.Ratio.{Ratio, add, mul, zero_ratio, one_ratio}
-use Rattle.cv_ratio.specs.Order.{ratio_cmp, at_most, lesser, greater}
-use Rattle.cv_ratio.proofs.Order.{ratio_cmp_total}
-use Rattle.cv_ratio.proofs.Laws.{mul-assoc, mul_one, mul_comm_ratio}
+use Rattle.cv_spec_ratio.specs.Ratio.{Ratio, add, mul, zero_ratio, one_ratio}
+use Rattle.cv_spec_ratio.specs.Order.{ratio_cmp, at_most, lesser, greater}
+use Rattle.cv_spec_ratio.proofs.Order.{ratio_cmp_total}
+use Rattle.cv_spec_ratio.proofs.Laws.{mul-assoc, mul_one, mul_comm_ratio}
 use Rattle.cv_calc.specs.Value.{both, sum_of, product_of, chosen_of}
 use Rattle.cv_calc.proofs.Values.{both_comm, both_assoc, both_zero}
 

@@ -1,11 +1,11 @@
 -- A factor as a fraction and a divisor of it.
 use Rattle.std.proofs.Common.{◌≡◌, ◌<◌, ℕ, pos, sym, ◌∙◌, ap}
 use Rattle.std.specs.Prelude.{min, max}
-use Rattle.cv_ratio.specs.Order.{lesser, greater}
-use Rattle.cv_ratio.proofs.Whole.{lesser_whole, greater_whole}
+use Rattle.cv_spec_ratio.specs.Order.{lesser, greater}
+use Rattle.cv_spec_ratio.proofs.Whole.{lesser_whole, greater_whole}
 use Rattle.cv_calc.specs.Factor.{hundredth}
-use Rattle.cv_ratio.specs.Ratio.{Ratio, ratio, mul, one_ratio}
-use Rattle.cv_ratio.proofs.Laws.{whole-part, mul_one}
+use Rattle.cv_spec_ratio.specs.Ratio.{Ratio, ratio, mul, one_ratio}
+use Rattle.cv_spec_ratio.proofs.Laws.{whole-part, mul_one}
 
 pub mul-whole : (r : Ratio) → mul r (ratio (pos 1) 1) ≡ r
 unfolding one_ratio

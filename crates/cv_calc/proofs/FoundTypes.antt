@@ -2,7 +2,7 @@
 use Rattle.std.specs.Prelude.{List, [], ◌∷◌, map, fold, Option}
 use Rattle.std.specs.Option.{option_and_then}
 use Rattle.std.proofs.Common.{◌≡◌, refl, sym, ◌∙◌, ap, ap₂}
-use Rattle.cv_ratio.specs.Ratio.{Ratio}
+use Rattle.cv_spec_ratio.specs.Ratio.{Ratio}
 use Rattle.cv_calc.specs.declared.unit.Unit as units
 use Rattle.cv_calc.specs.declared.unit.NumType.{NumType}
 use Rattle.cv_calc.specs.declared.shape.Shape.{Shape}

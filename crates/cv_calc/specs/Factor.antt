@@ -2,8 +2,8 @@
 -- Units", "Frequency Units", "Resolution Units"). Half an em stands for `ex` and `ch`, and an em for `ic`, as it says where no font
 -- is at hand.
 use Rattle.std.specs.Prelude.{pos, Result, Ok, Err}
-use Rattle.cv_ratio.specs.Order.{lesser, greater}
-use Rattle.cv_ratio.specs.Ratio.{Ratio, ratio, mul, one_ratio}
+use Rattle.cv_spec_ratio.specs.Order.{lesser, greater}
+use Rattle.cv_spec_ratio.specs.Ratio.{Ratio, ratio, mul, one_ratio}
 use Rattle.cv_frac.specs.declared.error.FracErr.{FracErr}
 use Rattle.cv_frac.specs.Bounded.{bounded}
 use Rattle.cv_calc.specs.declared.context.Context.{Context}

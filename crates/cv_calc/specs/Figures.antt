@@ -1,6 +1,6 @@
 -- The figure of a calculation of numbers alone tells its value, under every meaning of units.
 use Rattle.std.specs.Prelude.{◌≡◌, Some, None}
-use Rattle.cv_ratio.specs.Ratio.{Ratio}
+use Rattle.cv_spec_ratio.specs.Ratio.{Ratio}
 use Rattle.cv_calc.specs.declared.calc.Calc.{Calc}
 use Rattle.cv_calc.specs.Value.{Meaning, value}
 use Rattle.cv_calc.specs.Numbers.{figure, undefined, inside, outside}

@@ -2,8 +2,8 @@
 -- which are its numbers, the value of each part, and the sums and products of the first children of a sum or product. The bounds
 -- are this project's own; the value is that of CSS Values and Units 4, "Mathematical Expressions".
 use Rattle.std.specs.Prelude.{List, [], ◌∷◌, fold, Option, Some, None, if◌then◌else◌}
-use Rattle.cv_ratio.specs.Ratio.{Ratio, add, mul, neg, reciprocal, zero_ratio, one_ratio}
-use Rattle.cv_ratio.specs.Order.{lesser, greater}
+use Rattle.cv_spec_ratio.specs.Ratio.{Ratio, add, mul, neg, reciprocal, zero_ratio, one_ratio}
+use Rattle.cv_spec_ratio.specs.Order.{lesser, greater}
 use Rattle.cv_frac.specs.Bounded.{in_bounds}
 use Rattle.cv_calc.specs.declared.unit.Unit as units
 use Rattle.cv_calc.specs.declared.unit.Unit.TheVariants as unit

@@ -1,7 +1,7 @@
 //! What relative units and percentages stand for.
 
 ghost use Rattle.std.specs.Prelude.{◌≡◌, ◌<◌, pos};
-ghost use Rattle.cv_ratio.specs.Ratio.{ratio, mul};
+ghost use Rattle.cv_spec_ratio.specs.Ratio.{ratio, mul};
 ghost use Rattle.cv_calc.specs.Factor.{canonical as canonical_unit, factor, sizes_of, canonical_of};
 
 use crate::unit::Unit;
@@ -57,7 +57,7 @@ fn canonical(unit: Unit) -> Unit
 }
 
 /// What one of a unit is in its canonical unit, as a fraction and a divisor of it.
-#[tactic(auto, using(crate::proofs::Factors::parts), unfolding(cv_ratio::specs::Ratio::one_ratio))]
+#[tactic(auto, using(crate::proofs::Factors::parts), unfolding(cv_spec_ratio::specs::Ratio::one_ratio))]
 fn factor_parts(unit: Unit, x: &Context) -> (Frac, u32)
     ensures value { mul result.0 (ratio (pos 1) result.1) ≡ factor (sizes_of x.now) unit }
     ensures divisor { 0 < result.1 }

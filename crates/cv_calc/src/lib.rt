@@ -8,8 +8,6 @@ mod names;
 mod power;
 mod product;
 mod shape;
-#[cfg(test)]
-mod tests;
 mod types;
 pub mod unit;
 

@@ -1,7 +1,7 @@
 -- A linear calculation of the type of a unit that the reader answers simplifies to one number.
 use Rattle.std.specs.Prelude.{true, Option, Some, None}
 use Rattle.std.proofs.Common.{◌≡◌, refl}
-use Rattle.cv_ratio.specs.Ratio.{Ratio, mul, one_ratio}
+use Rattle.cv_spec_ratio.specs.Ratio.{Ratio, mul, one_ratio}
 use Rattle.cv_calc.specs.declared.unit.NumType.{NumType}
 use Rattle.cv_calc.specs.declared.context.Basis.{Basis}
 use Rattle.cv_calc.specs.declared.context.Basis.TheVariants.{Plain, Length, Of}

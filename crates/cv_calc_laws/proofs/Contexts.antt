@@ -1,8 +1,8 @@
 -- A calculation without font units is simplified alike in contexts that differ in these alone.
 use Rattle.std.specs.Prelude.{Bool, true, false, not, pos}
 use Rattle.std.proofs.Common.{◌≡◌, refl, ap, ap₂}
-use Rattle.cv_ratio.specs.Ratio.{Ratio, ratio, mul}
-use Rattle.cv_ratio.specs.Order.{lesser, greater}
+use Rattle.cv_spec_ratio.specs.Ratio.{Ratio, ratio, mul}
+use Rattle.cv_spec_ratio.specs.Order.{lesser, greater}
 use Rattle.cv_calc.specs.declared.unit.Unit as units
 use Rattle.cv_calc.specs.declared.unit.Unit.TheVariants.{Percent, Em, Rem, Ex, Ch, Ic, Vw, Vh, Vmin, Vmax}
 use Rattle.cv_calc.specs.declared.context.Context.{Context}

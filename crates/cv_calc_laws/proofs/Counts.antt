@@ -1,7 +1,7 @@
 -- A calculation that is read has as many divisors as the list has slashes.
 use Rattle.std.specs.Prelude.{Bool, true, false, List, [], ◌∷◌, ◌++◌, map, fold, length, replicate, Some, if◌then◌else◌}
 use Rattle.std.proofs.Common.{◌≡◌, ◌≤◌, ◌+◌, refl, sym, ◌∙◌, ap, ℕ, zero, suc, arith, length-append}
-use Rattle.cv_ratio.specs.Ratio.{Ratio, zero_ratio, one_ratio}
+use Rattle.cv_spec_ratio.specs.Ratio.{Ratio, zero_ratio, one_ratio}
 use Rattle.cv_spec_text.specs.declared.token.Bracket.TheVariants.{Round as RoundBracket}
 use Rattle.cv_spec_text.specs.declared.token.Token.{Token}
 use Rattle.cv_spec_text.specs.declared.token.Token.TheVariants.{Close}

@@ -2,9 +2,9 @@
 use Rattle.std.specs.Prelude.{true, ◌&&◌, List, [], ◌∷◌, map, fold}
 use Rattle.std.specs.Option.{option_and_then}
 use Rattle.std.proofs.Common.{inl, inr, ◌≡◌, refl, sym, ◌∙◌, ap, subst}
-use Rattle.cv_ratio.specs.Ratio.{Ratio, mul, one_ratio}
-use Rattle.cv_ratio.specs.Order.{lesser, greater}
-use Rattle.cv_ratio.proofs.Laws.{mul_one}
+use Rattle.cv_spec_ratio.specs.Ratio.{Ratio, mul, one_ratio}
+use Rattle.cv_spec_ratio.specs.Order.{lesser, greater}
+use Rattle.cv_spec_ratio.proofs.Laws.{mul_one}
 use Rattle.cv_calc.specs.declared.unit.NumType.{NumType}
 use Rattle.cv_calc.specs.declared.unit.Unit as units
 use Rattle.cv_calc.specs.declared.unit.Unit.TheVariants.{Number, Percent, Px, Deg, Grad, Turn, S, Ms, Hz, Khz, Dppx, X, Dpi, Dpcm, Fr}

@@ -1,8 +1,8 @@
 -- The figure of a calculation that is made of numbers alone isn't that of a measure.
 use Rattle.std.specs.Prelude.{Bool, true, false, List, [], ◌∷◌, map, fold, Option, Some, None, if◌then◌else◌}
 use Rattle.std.proofs.Common.{◌≡◌, sym, subst}
-use Rattle.cv_ratio.specs.Ratio.{Ratio, add, mul, reciprocal, zero_ratio, one_ratio}
-use Rattle.cv_ratio.specs.Order.{lesser, greater}
+use Rattle.cv_spec_ratio.specs.Ratio.{Ratio, add, mul, reciprocal, zero_ratio, one_ratio}
+use Rattle.cv_spec_ratio.specs.Order.{lesser, greater}
 use Rattle.cv_frac.specs.Bounded.{in_bounds}
 use Rattle.cv_calc.specs.declared.unit.Unit as units
 use Rattle.cv_calc.specs.declared.unit.Unit.TheVariants as unit

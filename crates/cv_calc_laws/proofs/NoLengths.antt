@@ -1,7 +1,7 @@
 -- A calculation that is no length is simplified alike in every two contexts in which percentages stand for the same.
 use Rattle.std.specs.Prelude.{Bool, true, false, ◌||◌}
 use Rattle.std.proofs.Common.{◌≡◌, refl, sym, ap}
-use Rattle.cv_ratio.specs.Ratio.{Ratio, mul}
+use Rattle.cv_spec_ratio.specs.Ratio.{Ratio, mul}
 use Rattle.cv_calc.specs.declared.unit.Unit as units
 use Rattle.cv_calc.specs.declared.unit.Unit.TheVariants.{Percent, Em, Rem, Ex, Ch, Ic, Vw, Vh, Vmin, Vmax}
 use Rattle.cv_calc.specs.declared.context.Context.{Context}

@@ -1,8 +1,8 @@
 -- A calculation is simplified alike in two contexts where its numbers are, and percentages stand for the same.
 use Rattle.std.specs.Prelude.{Bool, true, ◌&&◌, map}
 use Rattle.std.proofs.Common.{◌≡◌, refl, ap}
-use Rattle.cv_ratio.specs.Ratio.{Ratio}
-use Rattle.cv_ratio.specs.Order.{lesser, greater}
+use Rattle.cv_spec_ratio.specs.Ratio.{Ratio}
+use Rattle.cv_spec_ratio.specs.Order.{lesser, greater}
 use Rattle.cv_calc.specs.declared.unit.Unit as units
 use Rattle.cv_calc.specs.declared.context.Context.{Context}
 use Rattle.cv_calc.specs.declared.calc.Calc.{Calc}

@@ -1,7 +1,7 @@
 -- The row of a product of numbers, of which one may have a unit.
 use Rattle.std.specs.Prelude.{Bool, true, false, ◌&&◌, List, [], ◌∷◌, fold, Option, Some, None, if◌then◌else◌}
 use Rattle.std.proofs.Common.{inl, inr, ◌≡◌, refl, sym, ◌∙◌, ap, ap₂, subst}
-use Rattle.cv_ratio.specs.Ratio.{Ratio, mul}
+use Rattle.cv_spec_ratio.specs.Ratio.{Ratio, mul}
 use Rattle.cv_calc.specs.declared.unit.Unit as units
 use Rattle.cv_calc.specs.declared.unit.Unit.TheVariants.{Number}
 use Rattle.cv_calc.specs.declared.calc.Calc.{Calc}

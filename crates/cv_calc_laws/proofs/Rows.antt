@@ -1,8 +1,8 @@
 -- Rows of numbers of one unit, and of numbers of which one has a unit.
 use Rattle.std.specs.Prelude.{Bool, true, List, [], ◌∷◌, fold, Some}
 use Rattle.std.proofs.Common.{◌≡◌, refl, ◌∙◌, ap, ap₂}
-use Rattle.cv_ratio.specs.Ratio.{Ratio, add, neg, reciprocal}
-use Rattle.cv_ratio.specs.Order.{lesser, greater}
+use Rattle.cv_spec_ratio.specs.Ratio.{Ratio, add, neg, reciprocal}
+use Rattle.cv_spec_ratio.specs.Order.{lesser, greater}
 use Rattle.cv_calc.specs.declared.unit.Unit as units
 use Rattle.cv_calc.specs.declared.unit.Unit.TheVariants.{Number}
 use Rattle.cv_calc.specs.declared.calc.Calc.{Calc}

@@ -3,8 +3,8 @@ use Rattle.std.specs.Prelude.{Bool, true, false, ◌&&◌, pos, negsuc, ℤ, Lis
 use Rattle.std.specs.Option.{option_and_then}
 use Rattle.std.specs.Ordering.{int_eq}
 use Rattle.std.proofs.Common.{◌≡◌, ◌≤◌, refl, sym, ◌∙◌, ap, ap₂, subst, ℕ, zero, suc, arith}
-use Rattle.cv_ratio.specs.Ratio.{Ratio, add, mul, neg, reciprocal, reciprocal_by, zero_ratio, one_ratio}
-use Rattle.cv_ratio.specs.Order.{lesser, greater}
+use Rattle.cv_spec_ratio.specs.Ratio.{Ratio, add, mul, neg, reciprocal, reciprocal_by, zero_ratio, one_ratio}
+use Rattle.cv_spec_ratio.specs.Order.{lesser, greater}
 use Rattle.cv_exact.specs.Zero.{is_zero}
 use Rattle.cv_calc.specs.declared.unit.Base.{Base}
 use Rattle.cv_calc.specs.declared.unit.NumType.{NumType}

@@ -2,7 +2,7 @@
 -- "Font-relative Lengths"; that contexts are compared is this project's own).
 use Rattle.std.specs.Prelude.{◌≡◌, ℕ, Bool, true, false, not, List, Ok, Some}
 use Rattle.std.specs.List.{list_all}
-use Rattle.cv_ratio.specs.Ratio.{Ratio}
+use Rattle.cv_spec_ratio.specs.Ratio.{Ratio}
 use Rattle.cv_spec_text.specs.declared.token.Token.{Token}
 use Rattle.cv_spec_text.specs.declared.token.Token.TheVariants.{Ident}
 use Rattle.cv_calc.specs.declared.unit.Unit as units

@@ -1,7 +1,7 @@
 -- Calculations of the type of a unit: the units that they hold, and the contexts in which they are alike (CSS Typed OM 1, "Numeric Value
 -- Typing"; which calculations are linear, and that contexts are compared, is this project's own).
 use Rattle.std.specs.Prelude.{◌≡◌, Bool, true, false, ◌||◌, Some}
-use Rattle.cv_ratio.specs.Ratio.{Ratio}
+use Rattle.cv_spec_ratio.specs.Ratio.{Ratio}
 use Rattle.cv_calc.specs.declared.unit.Unit as units
 use Rattle.cv_calc.specs.declared.unit.Unit.TheVariants.{Number, Px}
 use Rattle.cv_calc.specs.declared.context.Context.{Context}

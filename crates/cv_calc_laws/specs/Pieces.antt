@@ -1,7 +1,7 @@
 -- Of which tokens texts of calculations are made (CSS Values and Units 4, "Serialization").
 use Rattle.std.specs.Prelude.{◌≡◌, ℕ, Bool, true, List, codes}
 use Rattle.std.specs.List.{list_all}
-use Rattle.cv_ratio.specs.Ratio.{Ratio}
+use Rattle.cv_spec_ratio.specs.Ratio.{Ratio}
 use Rattle.cv_spec_text.specs.declared.token.Bracket.TheVariants.{Round}
 use Rattle.cv_spec_text.specs.declared.token.Token.{Token}
 use Rattle.cv_spec_text.specs.declared.token.Token.TheVariants.{White, Comma, Open, Close, Function, Delim, Number, Percentage, Dimension}

@@ -1,7 +1,7 @@
 -- Calculations that simplify to one number: those that are linear and have the type of a unit, as far as they have a value (CSS Values
 -- and Units 4, "Simplification"; which calculations are linear is this project's own).
 use Rattle.std.specs.Prelude.{◌≡◌, Bool, true, false, ◌&&◌, ◌||◌, List, Option, Some, Ok}
-use Rattle.cv_ratio.specs.Ratio.{Ratio}
+use Rattle.cv_spec_ratio.specs.Ratio.{Ratio}
 use Rattle.cv_spec_text.specs.declared.token.Token.{Token}
 use Rattle.cv_calc.specs.declared.unit.Base.{Base}
 use Rattle.cv_calc.specs.declared.unit.Base.TheVariants.{Length}

@@ -1,7 +1,7 @@
 -- A list is read as trees of one shape, whatever its numbers mean.
 use Rattle.std.specs.Prelude.{List, [], ◌∷◌, ◌++◌, map, Option, Some, None}
 use Rattle.std.proofs.Common.{◌≡◌, refl, sym, ◌∙◌, ap, ap₂, ℕ}
-use Rattle.cv_ratio.specs.Ratio.{Ratio}
+use Rattle.cv_spec_ratio.specs.Ratio.{Ratio}
 use Rattle.cv_spec_text.specs.declared.token.Token.{Token}
 use Rattle.cv_calc.specs.declared.unit.Unit.TheVariants as unit
 use Rattle.cv_calc.specs.declared.calc.Calc.{Calc}

@@ -1,7 +1,7 @@
 -- A fraction that is refused is out of bounds, and one that is given is in bounds.
 use Rattle.std.specs.Prelude.{Bool, true, false, Result, Ok, Err, if◌then◌else◌}
 use Rattle.std.proofs.Common.{◌≡◌, refl, sym, ◌∙◌, ap}
-use Rattle.cv_ratio.specs.Ratio.{Ratio}
+use Rattle.cv_spec_ratio.specs.Ratio.{Ratio}
 use Rattle.cv_frac.specs.declared.error.FracErr.{FracErr}
 use Rattle.cv_frac.specs.declared.error.FracErr.TheVariants.{Range}
 use Rattle.cv_frac.specs.Bounded.{bounded, in_bounds}

@@ -1,7 +1,7 @@
 -- The equations of what a calculation says of the divisors in it.
 use Rattle.std.specs.Prelude.{List, [], map}
 use Rattle.std.proofs.Common.{◌≡◌}
-use Rattle.cv_ratio.specs.Ratio.{Ratio}
+use Rattle.cv_spec_ratio.specs.Ratio.{Ratio}
 use Rattle.cv_calc.specs.declared.unit.Unit as units
 use Rattle.cv_calc.specs.declared.calc.Calc.{Calc}
 use Rattle.cv_calc.specs.declared.calc.Calc.TheVariants.{Num, Sum, Product, Negate, Invert, Min, Max, Clamp}

@@ -1,7 +1,7 @@
 -- What a calculation says of the divisors in it: those that are made of numbers alone are looked at.
 use Rattle.std.specs.Prelude.{List, [], ◌∷◌, ◌++◌, fold, Option, Some, None, if◌then◌else◌}
-use Rattle.cv_ratio.specs.Ratio.{Ratio, add, mul, zero_ratio, one_ratio}
-use Rattle.cv_ratio.specs.Order.{lesser, greater}
+use Rattle.cv_spec_ratio.specs.Ratio.{Ratio, add, mul, zero_ratio, one_ratio}
+use Rattle.cv_spec_ratio.specs.Order.{lesser, greater}
 use Rattle.cv_exact.specs.Zero.{is_zero}
 use Rattle.cv_calc.specs.declared.calc.Calc.{Calc}
 use Rattle.cv_calc.specs.declared.calc.Calc.TheOpen.{Calc-F, Num, Sum, Product, Negate, Invert, Min, Max, Clamp}

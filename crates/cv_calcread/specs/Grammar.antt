@@ -1,6 +1,6 @@
 -- The grammar of math functions: how a front of a list reads as a tree, and what it leaves.
 use Rattle.std.specs.Prelude.{◌≡◌, ℕ, true, List, [], ◌∷◌, ◌++◌, replicate, Some}
-use Rattle.cv_ratio.specs.Ratio.{Ratio}
+use Rattle.cv_spec_ratio.specs.Ratio.{Ratio}
 use Rattle.cv_spec_text.specs.Characters.{solidus, plus_sign, hyphen, asterisk}
 use Rattle.cv_spec_text.specs.declared.token.Bracket.TheVariants.{Round as RoundBracket}
 use Rattle.cv_spec_text.specs.declared.token.Token.{Token}

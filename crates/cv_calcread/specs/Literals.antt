@@ -1,7 +1,7 @@
 -- The words, numbers and units of tokens.
 use Rattle.std.specs.Prelude.{ℕ, Bool, true, false, List, map, bytes_eq, encode_utf8_all, Result, Ok, Err}
 use Rattle.std.specs.Char.{to_ascii_lowercase}
-use Rattle.cv_ratio.specs.Ratio.{Ratio, zero_ratio}
+use Rattle.cv_spec_ratio.specs.Ratio.{Ratio, zero_ratio}
 use Rattle.cv_frac.specs.declared.error.FracErr.{FracErr}
 use Rattle.cv_frac.specs.Literal.{exact, literal_of}
 

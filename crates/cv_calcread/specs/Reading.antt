@@ -1,6 +1,6 @@
 -- The tree of a math function, token by token. Each step looks at one token.
 use Rattle.std.specs.Prelude.{ℕ, zero, suc, Bool, true, false, ◌&&◌, ◌==◌, List, [], ◌∷◌, ◌++◌, length, fold, codes, Option, Some, None, if◌then◌else◌}
-use Rattle.cv_ratio.specs.Ratio.{Ratio}
+use Rattle.cv_spec_ratio.specs.Ratio.{Ratio}
 use Rattle.cv_spec_text.specs.Characters.{solidus, plus_sign, hyphen, asterisk}
 use Rattle.cv_spec_text.specs.declared.token.Bracket.TheVariants.{Round as RoundBracket}
 use Rattle.cv_spec_text.specs.declared.token.Token.{Token}

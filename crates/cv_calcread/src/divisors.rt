@@ -2,7 +2,7 @@
 
 ghost use Rattle.std.specs.Prelude.{◌≡◌, IfOk, map, []};
 ghost use Rattle.std.specs.Option.{option_map};
-ghost use Rattle.cv_ratio.specs.Ratio.{zero_ratio, one_ratio};
+ghost use Rattle.cv_spec_ratio.specs.Ratio.{zero_ratio, one_ratio};
 ghost use Rattle.cv_calcread.specs.Figures as figures;
 
 use crate::figure::{Figure, Joining, Mark, inverted, joined, mark_of, negated, unit_figure};
@@ -131,7 +131,7 @@ pub fn evaluate(alloc: Global, c: &Calc) -> Result<Evaluation, AllocError>
 
 /// The parts of a sum.
 #[cycle(evaluate)]
-#[tactic(auto, unfolding(cv_ratio::specs::Ratio::zero_ratio))]
+#[tactic(auto, unfolding(cv_spec_ratio::specs::Ratio::zero_ratio))]
 fn sum(alloc: Global, children: &[Calc]) -> Result<Evaluation, AllocError>
     ensures { IfOk result (λ e. figures.shown e ≡ figures.sum_of (map figures.evaluated children.now)) }
 {
@@ -144,7 +144,7 @@ fn sum(alloc: Global, children: &[Calc]) -> Result<Evaluation, AllocError>
 
 /// The parts of a product.
 #[cycle(evaluate)]
-#[tactic(auto, unfolding(cv_ratio::specs::Ratio::one_ratio))]
+#[tactic(auto, unfolding(cv_spec_ratio::specs::Ratio::one_ratio))]
 fn product(alloc: Global, children: &[Calc]) -> Result<Evaluation, AllocError>
     ensures { IfOk result (λ e. figures.shown e ≡ figures.product_of (map figures.evaluated children.now)) }
 {

@@ -1,8 +1,8 @@
 //! The value of a calculation that is made of numbers alone.
 
 ghost use Rattle.std.specs.Prelude.{◌≡◌, IfOk, ◌<◌};
-ghost use Rattle.cv_ratio.specs.Ratio.{Ratio, add, mul, neg, reciprocal};
-ghost use Rattle.cv_ratio.specs.Order.{lesser, greater};
+ghost use Rattle.cv_spec_ratio.specs.Ratio.{Ratio, add, mul, neg, reciprocal};
+ghost use Rattle.cv_spec_ratio.specs.Order.{lesser, greater};
 ghost use Rattle.cv_exact.specs.Zero.{is_zero};
 ghost use Rattle.cv_calc.specs.Numbers as numbers;
 ghost use Rattle.cv_calcread.specs.declared.figure.Joining as joinings;

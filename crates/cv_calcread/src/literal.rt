@@ -7,7 +7,7 @@ use cv_frac::Frac;
 use cv_spec_text::Name;
 
 /// The fraction of a number, or zero where it is out of range.
-#[tactic(auto, unfolding(crate::specs::Literals::kept, cv_ratio::specs::Ratio::zero_ratio))]
+#[tactic(auto, unfolding(crate::specs::Literals::kept, cv_spec_ratio::specs::Ratio::zero_ratio))]
 pub fn kept(spelling: &Name) -> Frac
     ensures { result ≡ literals.kept spelling.now }
 {

@@ -2,9 +2,9 @@
 use Rattle.std.specs.Prelude.{ℕ, true, ◌/◌, ◌<◌, ◌≤◌, ◌^◌, ◌&&◌, nat_lt, unsigned_abs, Ok}
 use Rattle.std.proofs.Common.{◌≡◌, refl, sym, subst, arith, pos}
 use Rattle.std.proofs.lemmas.Bool.Decides.{nat_tests}
-use Rattle.cv_ratio.specs.Gcd.{gcd}
-use Rattle.cv_ratio.specs.Cancelled.{unsigned_abs-int_div}
-use Rattle.cv_ratio.specs.Ratio.{ratio}
+use Rattle.cv_spec_ratio.specs.Gcd.{gcd}
+use Rattle.cv_spec_ratio.specs.Cancelled.{unsigned_abs-int_div}
+use Rattle.cv_spec_ratio.specs.Ratio.{ratio}
 use Rattle.cv_frac.specs.Bounded.{of_numbers}
 
 less : (n g : ℕ) → n / g ≤ n

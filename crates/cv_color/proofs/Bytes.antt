@@ -6,9 +6,9 @@ use Rattle.std.specs.declared.cmp.Ordering.TheVariants.{Less, Equal, Greater}
 use Rattle.std.proofs.Common.{◌≡◌, ℕ, refl, sym, ◌∙◌, ap, ap₂, subst, arith, ℤ, pos, negsuc}
 use Rattle.std.proofs.lemmas.Int.{ints}
 use Rattle.std.proofs.Math.Nat.{div-lt_iff_lt-mul}
-use Rattle.cv_ratio.specs.Ratio.{Ratio, ratio}
-use Rattle.cv_ratio.specs.Order.{ratio_cmp}
-use Rattle.cv_ratio.proofs.Whole.{whole_top, whole_bottom}
+use Rattle.cv_spec_ratio.specs.Ratio.{Ratio, ratio}
+use Rattle.cv_spec_ratio.specs.Order.{ratio_cmp}
+use Rattle.cv_spec_ratio.proofs.Whole.{whole_top, whole_bottom}
 use Rattle.cv_frac.specs.Rounded.{half_up}
 use Rattle.cv_color.specs.Channels.{clamped, channel}
 

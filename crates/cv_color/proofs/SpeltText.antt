@@ -12,7 +12,7 @@ use Rattle.cv_spec_text.specs.Names.{begins_name, name_piece_length, name_piece_
 use Rattle.cv_spec_text.specs.Numbers.{number_length, mantissa_length, fraction_length, exponent_length}
 use Rattle.cv_spec_text.specs.Runs.{run_values, run_length}
 use Rattle.std.proofs.lemmas.List.Elements.{All-from_recursion, All-append}
-use Rattle.cv_ratio.specs.Ratio.{Ratio}
+use Rattle.cv_spec_ratio.specs.Ratio.{Ratio}
 use Rattle.cv_color.specs.Text.{channels_text, alpha_text, separated, closing}
 use Rattle.cv_color.proofs.CleanText.{rgb_list, rgba_list}
 use Rattle.cv_spec_text.specs.Splits.{IsSpelt}

@@ -2,8 +2,8 @@
 -- "Serializing sRGB values"); that the alpha stays exact is this project's own.
 use Rattle.std.specs.Prelude.{ℕ, pos, unsigned_abs}
 use Rattle.std.specs.Ordering.{ord_min, ord_max}
-use Rattle.cv_ratio.specs.Ratio.{Ratio, ratio}
-use Rattle.cv_ratio.specs.Order.{ratio_cmp}
+use Rattle.cv_spec_ratio.specs.Ratio.{Ratio, ratio}
+use Rattle.cv_spec_ratio.specs.Order.{ratio_cmp}
 use Rattle.cv_frac.specs.Rounded.{half_up}
 use Rattle.cv_color.specs.declared.color.Color.{Color}
 use Rattle.cv_color.specs.declared.color.Color.TheVariants.{Rgb}

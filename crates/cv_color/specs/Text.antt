@@ -2,8 +2,8 @@
 -- number standing alone, which is this project's own: it isn't rounded.
 use Rattle.std.specs.Prelude.{ℕ, pos, Bool, List, [], ◌∷◌, ◌++◌, codes, decimal, if◌then◌else◌}
 use Rattle.std.specs.Ordering.{eq_by_cmp}
-use Rattle.cv_ratio.specs.Ratio.{Ratio, ratio}
-use Rattle.cv_ratio.specs.Order.{ratio_cmp}
+use Rattle.cv_spec_ratio.specs.Ratio.{Ratio, ratio}
+use Rattle.cv_spec_ratio.specs.Order.{ratio_cmp}
 use Rattle.cv_spec_text.specs.declared.token.Bracket.TheVariants.{Round}
 use Rattle.cv_spec_text.specs.declared.token.Token.{Token}
 use Rattle.cv_spec_text.specs.declared.token.Token.TheVariants.{Ident, Function, Number, White, Comma, Close}

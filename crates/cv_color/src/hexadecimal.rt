@@ -4,7 +4,7 @@ ghost use Rattle.std.specs.Prelude.{◌≡◌, ◌<◌, true, pos};
 ghost use Rattle.std.specs.List.{list_all};
 ghost use Rattle.std.specs.Char.{is_ascii_hexdigit as is_hexadecimal, digit_value};
 ghost use Rattle.cv_color.specs.Hex.{byte as byte_of, twice as twice_of, alpha as alpha_of, of_digits as color_of_digits, hex as color_of};
-ghost use Rattle.cv_ratio.specs.Ratio.{ratio};
+ghost use Rattle.cv_spec_ratio.specs.Ratio.{ratio};
 ghost use Rattle.cv_color.specs.declared.color.Color.{Color};
 
 use crate::color::Color;

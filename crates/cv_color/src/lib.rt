@@ -5,8 +5,6 @@ mod channels;
 pub mod color;
 mod hexadecimal;
 mod names;
-#[cfg(test)]
-mod tests;
 mod text;
 
 pub use channels::from_channels;

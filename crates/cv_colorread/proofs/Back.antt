@@ -4,11 +4,11 @@ use Rattle.std.specs.Ordering.{int_cmp, is_eq}
 use Rattle.std.specs.declared.cmp.Ordering.TheVariants.{Less, Equal, Greater}
 use Rattle.std.proofs.Common.{◌≡◌, ℤ, refl, sym, ◌∙◌, ap, subst, arith}
 use Rattle.std.proofs.lemmas.Int.{ints}
-use Rattle.cv_ratio.specs.Ratio.{Ratio, ratio}
-use Rattle.cv_ratio.proofs.LowestTerms.{same_ratio}
+use Rattle.cv_spec_ratio.specs.Ratio.{Ratio, ratio}
+use Rattle.cv_spec_ratio.proofs.LowestTerms.{same_ratio}
 use Rattle.cv_spec_text.specs.declared.token.Token.{Token}
 use Rattle.cv_spec_text.specs.declared.token.Token.TheVariants.{Function, Number}
-use Rattle.cv_parts.specs.Parts.{parts}
+use Rattle.cv_component.specs.Parts.{parts}
 use Rattle.cv_calc.specs.declared.context.Context.{Context}
 use Rattle.cv_calc.specs.declared.calc.Calc.TheVariants.{Num}
 use Rattle.cv_calc.specs.Tree.{out-Num}

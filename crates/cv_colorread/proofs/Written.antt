@@ -4,8 +4,8 @@ use Rattle.std.specs.Fmt.{digits}
 use Rattle.std.proofs.Common.{◌≡◌, refl, sym, ◌∙◌, ap, subst, arith}
 use Rattle.std.proofs.lemmas.Bool.Decides.{nat_tests}
 use Rattle.std.proofs.lemmas.Slice.Eq.{bytes_eq-Decides}
-use Rattle.cv_ratio.specs.Gcd.{gcd, gcd_steps}
-use Rattle.cv_ratio.specs.Ratio.{Ratio, ratio}
+use Rattle.cv_spec_ratio.specs.Gcd.{gcd, gcd_steps}
+use Rattle.cv_spec_ratio.specs.Ratio.{Ratio, ratio}
 use Rattle.cv_frac.specs.Bounded.{in_bounds}
 use Rattle.cv_frac.specs.Places.{decimal_places, first_from}
 use Rattle.cv_frac.specs.Rounded.{half_up}

@@ -1,7 +1,7 @@
 -- The channels and the alpha of a colour function (CSS Color 4, "The RGB functions: rgb() and rgba()", "Representing Transparency: the
 -- <alpha-value> syntax"): a number, or a percentage, which stands for its part of 255, and of the alpha for its part of 1.
 use Rattle.std.specs.Prelude.{ℕ, pos, List, [], ◌∷◌, if◌then◌else◌}
-use Rattle.cv_ratio.specs.Ratio.{Ratio, ratio, mul}
+use Rattle.cv_spec_ratio.specs.Ratio.{Ratio, ratio, mul}
 use Rattle.cv_frac.specs.Bounded.{in_bounds}
 use Rattle.cv_spec_text.specs.declared.token.Token.{Token}
 use Rattle.cv_calc.specs.declared.context.Context.{Context}

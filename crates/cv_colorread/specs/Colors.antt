@@ -1,12 +1,12 @@
 -- What a list is as a colour: a name, hexadecimal digits or a colour function (CSS Color 4, "The <color> syntax", "The RGB functions: rgb() and
 -- rgba()"). That a colour can be out of range is this project's own, since its fractions are exact.
 use Rattle.std.specs.Prelude.{ℕ, Bool, ◌+◌, ◌-◌, ◌==◌, ◌||◌, pos, List, [], ◌∷◌, length, map, take, drop, codes, Option, Some, None, if◌then◌else◌}
-use Rattle.cv_ratio.specs.Ratio.{Ratio, ratio}
+use Rattle.cv_spec_ratio.specs.Ratio.{Ratio, ratio}
 use Rattle.cv_spec_text.specs.Keywords.{is_word}
 use Rattle.cv_spec_text.specs.declared.token.Token.{Token}
 use Rattle.cv_spec_text.specs.declared.token.Token.TheVariants.{Ident, Hash, Function}
 use Rattle.cv_component.specs.Blocks.{matching}
-use Rattle.cv_parts.specs.Parts.{is_white, is_comma, is_solidus, parts, filled, trim}
+use Rattle.cv_component.specs.Parts.{is_white, is_comma, is_solidus, parts, filled, trim}
 use Rattle.cv_calc.specs.declared.context.Context.{Context}
 use Rattle.cv_numeric.specs.declared.matched.Matched.{Matched}
 use Rattle.cv_numeric.specs.declared.matched.Matched.TheVariants.{No, Fit}

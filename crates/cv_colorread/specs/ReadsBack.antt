@@ -1,6 +1,6 @@
 -- The text of a colour is read as the colour (CSSOM, "Serializing CSS Values": what is written has to parse to an equal value).
 use Rattle.std.specs.Prelude.{◌≡◌, ◌<◌, ℕ, true}
-use Rattle.cv_ratio.specs.Ratio.{Ratio}
+use Rattle.cv_spec_ratio.specs.Ratio.{Ratio}
 use Rattle.cv_frac.specs.Bounded.{in_bounds}
 use Rattle.cv_calc.specs.declared.context.Context.{Context}
 use Rattle.cv_calc.specs.declared.unit.Unit.TheVariants as units

@@ -9,7 +9,7 @@ use cv_calc::Context;
 use cv_color::Color;
 use cv_component::matching;
 use cv_numeric::Matched;
-use cv_parts::{Separator, comma_parts, parts, spaced_parts, trim};
+use cv_component::{Separator, comma_parts, parts, spaced_parts, trim};
 use cv_spec_text::{Name, Token};
 use std::alloc::{AllocError, Global};
 

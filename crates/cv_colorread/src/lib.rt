@@ -6,8 +6,6 @@ pub mod channels;
 mod color;
 mod function;
 mod laws;
-#[cfg(test)]
-mod tests;
 
 pub use color::read_color;
 pub use laws::{colors_read_back, mismatch_is_alike};

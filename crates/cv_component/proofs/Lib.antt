@@ -4,3 +4,5 @@ pub mod Reading
 pub mod Pieces
 pub mod ItemSteps
 pub mod RuleSteps
+pub mod Splits
+pub mod Ends

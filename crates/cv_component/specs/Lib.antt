@@ -6,3 +6,4 @@ pub mod TopLevel
 pub mod Items
 pub mod Stops
 pub mod Rules
+pub mod Parts

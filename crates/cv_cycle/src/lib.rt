@@ -4,8 +4,6 @@
 mod cycles;
 mod order;
 mod stacks;
-#[cfg(test)]
-mod tests;
 mod walk;
 
 pub use cycles::{cyclic, ordered};

@@ -10,8 +10,6 @@ mod elements;
 mod names;
 mod refusal;
 mod show;
-#[cfg(test)]
-mod tests;
 mod value;
 mod viewport;
 mod walking;

@@ -9,8 +9,6 @@ mod names;
 mod planning;
 mod refusal;
 mod settling;
-#[cfg(test)]
-mod tests;
 mod valuation;
 
 pub use laws::elements_have_one_result;

@@ -2,8 +2,8 @@
 use Rattle.std.specs.Prelude.{ℕ, zero, suc, ◌<◌, ◌^◌, pos, unsigned_abs, true, ◌&&◌, nat_lt, Ok}
 use Rattle.std.proofs.Common.{◌≡◌, refl, sym, ◌∙◌, ap, arith}
 use Rattle.std.proofs.lemmas.Bool.Decides.{nat_tests}
-use Rattle.cv_ratio.specs.Ratio.{Ratio, ratio}
-use Rattle.cv_ratio.specs.Code.{ratio_self}
+use Rattle.cv_spec_ratio.specs.Ratio.{Ratio, ratio}
+use Rattle.cv_spec_ratio.specs.Code.{ratio_self}
 use Rattle.cv_frac.specs.Bounded.{bounded, of_numbers}
 
 both_below : (m n : ℕ) → m < 2 ^ 63 → n < 2 ^ 63 → (nat_lt m (2 ^ 63) && nat_lt n (2 ^ 63)) ≡ true

@@ -4,11 +4,11 @@ use Rattle.std.proofs.Common.{◌≡◌, refl, sym, ◌∙◌, ap, subst, arith}
 use Rattle.std.proofs.Math.Path.{ap₂}
 use Rattle.std.proofs.Math.Nat.{zero-div}
 use Rattle.std.proofs.lemmas.Bool.Decides.{nat_tests}
-use Rattle.cv_ratio.specs.Gcd.{gcd}
-use Rattle.cv_ratio.specs.Cancelled.{gcd_pos, div-gcd_pos, gcd-div}
-use Rattle.cv_ratio.specs.Ratio.{Ratio, ratio, signed}
-use Rattle.cv_ratio.specs.Code.{ratio_self}
-use Rattle.cv_ratio.proofs.LowestTerms.{ratio-top, ratio-bottom}
+use Rattle.cv_spec_ratio.specs.Gcd.{gcd}
+use Rattle.cv_spec_ratio.specs.Cancelled.{gcd_pos, div-gcd_pos, gcd-div}
+use Rattle.cv_spec_ratio.specs.Ratio.{Ratio, ratio, signed}
+use Rattle.cv_spec_ratio.specs.Code.{ratio_self}
+use Rattle.cv_spec_ratio.proofs.LowestTerms.{ratio-top, ratio-bottom}
 use Rattle.cv_frac.specs.declared.error.FracErr.TheVariants.{Range}
 use Rattle.cv_frac.specs.Bounded.{bounded}
 use Rattle.cv_frac.specs.Frac.{IsFrac}

@@ -3,11 +3,11 @@ use Rattle.std.specs.Prelude.{Bool, ℕ, zero, suc, ◌*◌, ◌/◌, ◌<◌, �
 use Rattle.std.proofs.Common.{◌≡◌, sym, ◌∙◌, ap, ap₂, subst, arith}
 use Rattle.std.proofs.Math.Nat.{div-mul_cancel, dvd-mul_right}
 use Rattle.std.specs.Int.{◌∣◌}
-use Rattle.cv_ratio.specs.Gcd.{gcd}
-use Rattle.cv_ratio.specs.Cancelled.{gcd_is, gcd_pos, gcd-div, div-gcd_pos}
-use Rattle.cv_ratio.proofs.Gcd.{gcd_one_of_dvd, gcd-mul_one}
-use Rattle.cv_ratio.specs.Ratio.{ratio, signed}
-use Rattle.cv_ratio.proofs.Laws.{ratio_cancel, positive_product}
+use Rattle.cv_spec_ratio.specs.Gcd.{gcd}
+use Rattle.cv_spec_ratio.specs.Cancelled.{gcd_is, gcd_pos, gcd-div, div-gcd_pos}
+use Rattle.cv_spec_ratio.proofs.Gcd.{gcd_one_of_dvd, gcd-mul_one}
+use Rattle.cv_spec_ratio.specs.Ratio.{ratio, signed}
+use Rattle.cv_spec_ratio.proofs.Laws.{ratio_cancel, positive_product}
 use Rattle.cv_frac.specs.declared.error.FracErr.TheVariants.{Range}
 use Rattle.cv_frac.specs.Bounded.{bounded}
 use Rattle.cv_frac.proofs.Lowest.{lowest_outside}

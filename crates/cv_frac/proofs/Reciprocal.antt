@@ -3,10 +3,10 @@ use Rattle.std.specs.Prelude.{ℕ, ◌<◌, ◌^◌, ℤ, pos, negsuc, unsigned_
 use Rattle.std.proofs.Common.{◌≡◌, refl, sym, ◌∙◌, ap, ap₂, subst, w64, to_z, of_z, arith}
 use Rattle.std.proofs.lemmas.Int.{to_z-of_z}
 use Rattle.std.proofs.lemmas.Bool.Decides.{nat_tests}
-use Rattle.cv_ratio.specs.Gcd.{gcd}
-use Rattle.cv_ratio.proofs.Gcd.{gcd_comm}
-use Rattle.cv_ratio.specs.Ratio.{Ratio, ratio, signed, is_negative, reciprocal}
-use Rattle.cv_ratio.proofs.LowestTerms.{reciprocal_none, reciprocal_some}
+use Rattle.cv_spec_ratio.specs.Gcd.{gcd}
+use Rattle.cv_spec_ratio.proofs.Gcd.{gcd_comm}
+use Rattle.cv_spec_ratio.specs.Ratio.{Ratio, ratio, signed, is_negative, reciprocal}
+use Rattle.cv_spec_ratio.proofs.LowestTerms.{reciprocal_none, reciprocal_some}
 use Rattle.cv_frac.specs.declared.frac.Frac.TheInside.{Inside}
 use Rattle.cv_frac.specs.Frac.{IsFrac, frac_view, view-top, view-bottom}
 use Rattle.cv_frac.proofs.Lowest.{unsigned_abs-signed}

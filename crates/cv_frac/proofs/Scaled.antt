@@ -4,10 +4,10 @@ use Rattle.std.proofs.Common.{◌≡◌, refl, sym, ◌∙◌, ap, ap₂, arith,
 use Rattle.std.proofs.Math.Nat.{div-mul_cancel}
 use Rattle.std.proofs.lemmas.Nat.{pow-add, mul-lt}
 use Rattle.std.proofs.lemmas.Bool.{cases_lt}
-use Rattle.cv_ratio.specs.Gcd.{gcd}
-use Rattle.cv_ratio.specs.Cancelled.{gcd_is, gcd_one}
-use Rattle.cv_ratio.specs.Ratio.{Ratio, ratio, signed}
-use Rattle.cv_ratio.proofs.Laws.{ratio_cancel}
+use Rattle.cv_spec_ratio.specs.Gcd.{gcd}
+use Rattle.cv_spec_ratio.specs.Cancelled.{gcd_is, gcd_one}
+use Rattle.cv_spec_ratio.specs.Ratio.{Ratio, ratio, signed}
+use Rattle.cv_spec_ratio.proofs.Laws.{ratio_cancel}
 use Rattle.cv_frac.specs.declared.error.FracErr.{FracErr}
 use Rattle.cv_frac.specs.declared.error.FracErr.TheVariants.{Range}
 use Rattle.cv_frac.specs.Bounded.{bounded}

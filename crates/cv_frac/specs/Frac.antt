@@ -1,9 +1,9 @@
 -- What the fields of a fraction mean.
 use Rattle.std.specs.Prelude.{◌≡◌, ◌<◌, ◌^◌, unsigned_abs}
 use Rattle.std.proofs.Common.{ap}
-use Rattle.cv_ratio.specs.Gcd.{gcd}
-use Rattle.cv_ratio.specs.Ratio.{Ratio, ratio}
-use Rattle.cv_ratio.specs.Code.{ratio_self}
+use Rattle.cv_spec_ratio.specs.Gcd.{gcd}
+use Rattle.cv_spec_ratio.specs.Ratio.{Ratio, ratio}
+use Rattle.cv_spec_ratio.specs.Code.{ratio_self}
 use Rattle.cv_frac.specs.declared.frac.Frac.TheInside.{Inside}
 
 -- the fraction of the two numbers

@@ -5,7 +5,7 @@ use Rattle.std.specs.Char.{is_ascii_digit}
 use Rattle.std.specs.Str.Parse.{digits_value}
 use Rattle.cv_spec_text.specs.Characters.{hyphen, begins_with}
 use Rattle.cv_spec_text.specs.Numbers.{digits_length, sign_length, fraction_length, mantissa_length, number_length}
-use Rattle.cv_ratio.specs.Ratio.{Ratio, ratio, signed}
+use Rattle.cv_spec_ratio.specs.Ratio.{Ratio, ratio, signed}
 use Rattle.cv_frac.specs.declared.error.FracErr.{FracErr}
 use Rattle.cv_frac.specs.declared.error.FracErr.TheVariants.{NotDecimal, Range}
 use Rattle.cv_frac.specs.Bounded.{bounded}

@@ -1,7 +1,7 @@
 //! The fraction.
 
 ghost use Rattle.std.specs.Prelude.{◌≡◌, ◌<◌, ◌^◌, ◌*◌, ◌*ℤ◌, pos, unsigned_abs, Ok};
-ghost use Rattle.cv_ratio.specs.Ratio.{ratio, signed, add, mul, neg, reciprocal};
+ghost use Rattle.cv_spec_ratio.specs.Ratio.{ratio, signed, add, mul, neg, reciprocal};
 ghost use Rattle.cv_frac.specs.Bounded.{bounded, of_numbers, difference_of, quotient_of};
 
 use crate::divisor::gcd;
@@ -19,8 +19,8 @@ pub struct Frac {
 }
 
 impl Model for Frac {
-    ghost use Rattle.cv_ratio.specs.Ratio.{Ratio};
-    ghost use Rattle.cv_ratio.specs.Code.{ratio_code};
+    ghost use Rattle.cv_spec_ratio.specs.Ratio.{Ratio};
+    ghost use Rattle.cv_spec_ratio.specs.Code.{ratio_code};
 
     ghost Value = { Ratio };
 

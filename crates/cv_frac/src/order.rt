@@ -1,7 +1,7 @@
 //! The order of fractions, by their cross products.
 
 ghost use Rattle.std.specs.Prelude.{◌≡◌};
-ghost use Rattle.cv_ratio.specs.Order.{ratio_cmp};
+ghost use Rattle.cv_spec_ratio.specs.Order.{ratio_cmp};
 
 use crate::frac::{Frac, product};
 use std::cmp::Ordering;
@@ -20,8 +20,8 @@ impl Frac {
 impl PartialEq for Frac {
     ghost use Rattle.std.specs.Ordering.{eq_by_cmp};
     ghost use Rattle.std.specs.Cmp.{eq_by_cmp_equiv, partial_equiv_from_equiv};
-    ghost use Rattle.cv_ratio.specs.Order.{ratio_cmp};
-    ghost use Rattle.cv_ratio.proofs.Order.{ratio_cmp_total};
+    ghost use Rattle.cv_spec_ratio.specs.Order.{ratio_cmp};
+    ghost use Rattle.cv_spec_ratio.proofs.Order.{ratio_cmp_total};
 
     ghost eq = { eq_by_cmp ratio_cmp };
 
@@ -34,7 +34,7 @@ impl PartialEq for Frac {
 
 impl Eq for Frac {
     ghost use Rattle.std.specs.Cmp.{eq_by_cmp_equiv};
-    ghost use Rattle.cv_ratio.proofs.Order.{ratio_cmp_total};
+    ghost use Rattle.cv_spec_ratio.proofs.Order.{ratio_cmp_total};
 
     ghost laws = { eq_by_cmp_equiv ratio_cmp_total };
 }
@@ -42,8 +42,8 @@ impl Eq for Frac {
 impl PartialOrd for Frac {
     ghost use Rattle.std.specs.Prelude.{Some, refl};
     ghost use Rattle.std.specs.Cmp.{partial_order_from_agreeing_total};
-    ghost use Rattle.cv_ratio.specs.Order.{ratio_cmp};
-    ghost use Rattle.cv_ratio.proofs.Order.{ratio_cmp_total};
+    ghost use Rattle.cv_spec_ratio.specs.Order.{ratio_cmp};
+    ghost use Rattle.cv_spec_ratio.proofs.Order.{ratio_cmp_total};
 
     ghost partial_cmp = { λ r s. Some (ratio_cmp r s) };
 
@@ -56,8 +56,8 @@ impl PartialOrd for Frac {
 
 impl Ord for Frac {
     ghost use Rattle.std.specs.Prelude.{refl};
-    ghost use Rattle.cv_ratio.specs.Order.{ratio_cmp};
-    ghost use Rattle.cv_ratio.proofs.Order.{ratio_cmp_total};
+    ghost use Rattle.cv_spec_ratio.specs.Order.{ratio_cmp};
+    ghost use Rattle.cv_spec_ratio.proofs.Order.{ratio_cmp_total};
 
     ghost cmp = { ratio_cmp };
 

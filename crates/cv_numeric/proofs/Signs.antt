@@ -8,11 +8,11 @@ use Rattle.std.specs.Str.Parse.{digits_value, digits_value_after}
 use Rattle.std.proofs.lemmas.Bool.Decides.{nat_tests, Decides-int_eq}
 use Rattle.std.proofs.Math.Nat.{div-mul_cancel, zero-div}
 use Rattle.cv_spec_text.specs.Characters.{hyphen, begins_with}
-use Rattle.cv_ratio.specs.Gcd.{gcd, gcd_steps}
-use Rattle.cv_ratio.specs.Cancelled.{gcd_is, unsigned_abs-int_div}
-use Rattle.cv_ratio.specs.Ratio.{Ratio, ratio, signed}
-use Rattle.cv_ratio.proofs.Gcd.{gcd_comm}
-use Rattle.cv_ratio.proofs.LowestTerms.{ratio-top}
+use Rattle.cv_spec_ratio.specs.Gcd.{gcd, gcd_steps}
+use Rattle.cv_spec_ratio.specs.Cancelled.{gcd_is, unsigned_abs-int_div}
+use Rattle.cv_spec_ratio.specs.Ratio.{Ratio, ratio, signed}
+use Rattle.cv_spec_ratio.proofs.Gcd.{gcd_comm}
+use Rattle.cv_spec_ratio.proofs.LowestTerms.{ratio-top}
 use Rattle.cv_frac.specs.Bounded.{in_bounds}
 use Rattle.cv_frac.specs.Literal.{is_number, is_short, unsigned_part, mantissa_digits, fraction_digits, exponent_size, is_exponent_negative, without_leading, without_trailing, significant, with_exponent, exact, literal_of}
 use Rattle.cv_spec_text.specs.Numbers.{mantissa_length}

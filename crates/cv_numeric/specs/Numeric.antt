@@ -2,7 +2,7 @@
 -- Names"), with the basis of percentages that each sets. Lengths are in px, angles in deg, times in s, resolutions in dppx.
 use Rattle.std.specs.Prelude.{ℕ, ℤ, Bool, true, false, ◌||◌, List, [], ◌∷◌, encode_utf8_all, if◌then◌else◌}
 use Rattle.std.specs.Char.{is_ascii_digit}
-use Rattle.cv_ratio.specs.Ratio.{Ratio, zero_ratio}
+use Rattle.cv_spec_ratio.specs.Ratio.{Ratio, zero_ratio}
 use Rattle.cv_frac.specs.Rounded.{half_up}
 use Rattle.cv_spec_text.specs.Characters.{is_sign}
 use Rattle.cv_spec_text.specs.declared.token.Token.{Token}

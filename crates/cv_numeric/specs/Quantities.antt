@@ -1,8 +1,8 @@
 -- Which type each quantity takes (CSS Values and Units 4, "Type Checking"; CSS Typed OM 1, "Numeric Value Typing"), and which
 -- numbers are in range (CSS Values and Units 4, "Range Restrictions and Range Definition Notation").
 use Rattle.std.specs.Prelude.{Bool, true, false, ◌&&◌, ◌||◌, Option, Some, None, if◌then◌else◌}
-use Rattle.cv_ratio.specs.Ratio.{Ratio, zero_ratio}
-use Rattle.cv_ratio.specs.Order.{at_most}
+use Rattle.cv_spec_ratio.specs.Ratio.{Ratio, zero_ratio}
+use Rattle.cv_spec_ratio.specs.Order.{at_most}
 use Rattle.cv_calc.specs.declared.unit.Base.{Base}
 use Rattle.cv_calc.specs.declared.unit.Base.TheVariants.{Length as LengthBase}
 use Rattle.cv_calc.specs.declared.unit.NumType.{NumType}

@@ -25,7 +25,7 @@ fn with_basis(basis: Basis, x: &Context) -> Context
 }
 
 /// The number of a calculation that is one number.
-#[tactic(auto, unfolding(cv_ratio::specs::Ratio::zero_ratio))]
+#[tactic(auto, unfolding(cv_spec_ratio::specs::Ratio::zero_ratio))]
 fn value_of(c: &Calc) -> Frac
     ensures { result ≡ numeric.value_of c.now }
 {
@@ -93,7 +93,7 @@ pub fn resolution(alloc: Global, tokens: &[Token], x: &Context) -> Result<Matche
 }
 
 /// A bare number as a length, which is 0.
-#[tactic(auto, unfolding(cv_ratio::specs::Ratio::zero_ratio))]
+#[tactic(auto, unfolding(cv_spec_ratio::specs::Ratio::zero_ratio))]
 fn zero_length(spelling: &Name) -> Matched<Frac>
     ensures { result ≡ numeric.zero_length spelling.now }
 {

@@ -106,7 +106,7 @@ pub(crate) fn takes_unit(quantity: Quantity, unit: Unit) -> bool
 }
 
 /// A number within a range: the nearest in it.
-#[tactic(auto, unfolding(cv_ratio::specs::Ratio::zero_ratio))]
+#[tactic(auto, unfolding(cv_spec_ratio::specs::Ratio::zero_ratio))]
 pub(crate) fn clamped(range: Range, v: Frac) -> Frac
     ensures { result ≡ quantities.clamped range v }
 {

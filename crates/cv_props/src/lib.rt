@@ -21,6 +21,3 @@ pub use outcome::{Outcome, Valuation, outcome_text};
 pub use property::Property;
 pub use registry::{Registry, registers};
 pub use style::declares_ordinary;
-
-#[cfg(test)]
-mod tests;

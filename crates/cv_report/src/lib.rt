@@ -7,6 +7,3 @@ mod writing;
 
 pub use lines::{note_line, value_lines};
 pub use writing::report;
-
-#[cfg(test)]
-mod tests;

@@ -9,8 +9,6 @@ mod running;
 mod status;
 mod status_line;
 mod styles;
-#[cfg(test)]
-mod tests;
 mod tree;
 
 pub use cv_doc::{BadDoc, What};

@@ -1,7 +1,7 @@
 -- Rows of calculations whose numbers have units that differ in pairs.
 use Rattle.std.specs.Prelude.{Bool, true, false, ◌&&◌, List, [], ◌∷◌, fold, map, Option, Some, None, if◌then◌else◌}
 use Rattle.std.proofs.Common.{◌≡◌, refl, sym, ◌∙◌, ap, ap₂}
-use Rattle.cv_ratio.specs.Ratio.{Ratio, add}
+use Rattle.cv_spec_ratio.specs.Ratio.{Ratio, add}
 use Rattle.cv_calc.specs.declared.unit.Unit as units
 use Rattle.cv_calc.specs.declared.calc.Calc.{Calc}
 use Rattle.cv_calc.specs.declared.calc.Calc.TheVariants as tree

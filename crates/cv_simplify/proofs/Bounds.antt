@@ -1,11 +1,11 @@
 -- What has its fractions in bounds has them in bounds when it is negated, inverted, compared or clamped.
 use Rattle.std.specs.Prelude.{Bool, true, false, ◌&&◌, nat_lt, neg_ℤ, unsigned_abs, List, [], ◌∷◌, Option, Some, None, if◌then◌else◌}
 use Rattle.std.proofs.Common.{◌≡◌, ℕ, zero, suc, ◌<◌, ◌^◌, ℤ, pos, negsuc, refl, sym, ◌∙◌, ap, ap₂, arith}
-use Rattle.cv_ratio.specs.Gcd.{gcd}
-use Rattle.cv_ratio.specs.Ratio.{Ratio, ratio, neg, reciprocal, reciprocal_by}
-use Rattle.cv_ratio.specs.Order.{lesser, greater, at_most}
-use Rattle.cv_ratio.specs.Code.{top_kept, bottom_kept}
-use Rattle.cv_ratio.proofs.Gcd.{gcd_comm}
+use Rattle.cv_spec_ratio.specs.Gcd.{gcd}
+use Rattle.cv_spec_ratio.specs.Ratio.{Ratio, ratio, neg, reciprocal, reciprocal_by}
+use Rattle.cv_spec_ratio.specs.Order.{lesser, greater, at_most}
+use Rattle.cv_spec_ratio.specs.Code.{top_kept, bottom_kept}
+use Rattle.cv_spec_ratio.proofs.Gcd.{gcd_comm}
 use Rattle.cv_frac.specs.Bounded.{in_bounds}
 use Rattle.cv_calc.specs.declared.unit.Unit as units
 use Rattle.cv_calc.specs.declared.unit.Unit.TheVariants.{Number}

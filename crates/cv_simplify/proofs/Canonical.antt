@@ -1,8 +1,8 @@
 -- A simplified calculation holds numbers, percentages and canonical units alone.
 use Rattle.std.specs.Prelude.{Bool, true, false, ◌&&◌, List, [], ◌∷◌, fold, map, Option, Some, None, option_map, if◌then◌else◌}
 use Rattle.std.proofs.Common.{◌≡◌, refl, sym, ◌∙◌, ap}
-use Rattle.cv_ratio.specs.Ratio.{Ratio, add, mul, neg, reciprocal}
-use Rattle.cv_ratio.specs.Order.{lesser, greater}
+use Rattle.cv_spec_ratio.specs.Ratio.{Ratio, add, mul, neg, reciprocal}
+use Rattle.cv_spec_ratio.specs.Order.{lesser, greater}
 use Rattle.cv_calc.specs.declared.unit.Unit as units
 use Rattle.cv_calc.specs.declared.unit.Unit.TheVariants.{Number, Percent, Px}
 use Rattle.cv_calc.specs.declared.context.Basis.{Basis}

@@ -1,8 +1,8 @@
 -- What is made step by step is the simplified form exactly where the calculation is in range.
 use Rattle.std.specs.Prelude.{Bool, true, false, ◌&&◌, List, [], ◌∷◌, Option, Some, None, option_map, if◌then◌else◌}
 use Rattle.std.proofs.Common.{◌≡◌, refl, sym, ◌∙◌, ap}
-use Rattle.cv_ratio.specs.Ratio.{Ratio}
-use Rattle.cv_ratio.specs.Order.{lesser, greater, at_most}
+use Rattle.cv_spec_ratio.specs.Ratio.{Ratio}
+use Rattle.cv_spec_ratio.specs.Order.{lesser, greater, at_most}
 use Rattle.cv_frac.specs.Bounded.{in_bounds}
 use Rattle.cv_calc.specs.declared.unit.Unit as units
 use Rattle.cv_calc.specs.declared.calc.Calc.{Calc}

@@ -2,8 +2,8 @@
 use Rattle.std.specs.Prelude.{Bool, true, false, ◌&&◌, if◌then◌else◌, List, [], ◌∷◌, Option, Some, None, map, fold}
 use Rattle.std.proofs.Common.{◌≡◌, refl, sym, ◌∙◌, ap}
 use Rattle.std.proofs.Math.Path.{ap₂}
-use Rattle.cv_ratio.specs.Ratio.{Ratio, mul, one_ratio}
-use Rattle.cv_ratio.proofs.Laws.{mul_one}
+use Rattle.cv_spec_ratio.specs.Ratio.{Ratio, mul, one_ratio}
+use Rattle.cv_spec_ratio.proofs.Laws.{mul_one}
 use Rattle.cv_calc.specs.declared.unit.Unit as units
 use Rattle.cv_calc.specs.declared.unit.Unit.TheVariants.{Number, Percent, Px, Deg, S, Hz, Dppx, Fr}
 use Rattle.cv_calc.specs.declared.context.Basis.{Basis}

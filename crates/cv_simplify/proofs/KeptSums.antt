@@ -2,8 +2,8 @@
 use Rattle.std.specs.Prelude.{Bool, true, false, ◌&&◌, if◌then◌else◌, List, [], ◌∷◌, Option, Some, None, option_map, map, fold}
 use Rattle.std.proofs.Common.{◌≡◌, refl, sym, ◌∙◌, ap}
 use Rattle.std.proofs.Math.Path.{ap₂}
-use Rattle.cv_ratio.specs.Ratio.{Ratio, add, mul, neg, zero_ratio}
-use Rattle.cv_ratio.proofs.Laws.{mul-add_right, neg-mul}
+use Rattle.cv_spec_ratio.specs.Ratio.{Ratio, add, mul, neg, zero_ratio}
+use Rattle.cv_spec_ratio.proofs.Laws.{mul-add_right, neg-mul}
 use Rattle.cv_calc.specs.declared.unit.Unit as units
 use Rattle.cv_calc.specs.declared.calc.Calc.{Calc}
 use Rattle.cv_calc.specs.declared.calc.Calc.TheVariants as tree

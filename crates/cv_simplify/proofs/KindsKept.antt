@@ -2,8 +2,8 @@
 use Rattle.std.specs.Prelude.{Bool, true, false, ◌&&◌, List, [], ◌∷◌, fold, map, Option, Some, None, option_map, if◌then◌else◌}
 use Rattle.std.proofs.Common.{◌≡◌, refl, sym, ◌∙◌, ap}
 use Rattle.std.proofs.Math.Path.{ap₂}
-use Rattle.cv_ratio.specs.Ratio.{Ratio, mul, neg, reciprocal}
-use Rattle.cv_ratio.specs.Order.{lesser, greater}
+use Rattle.cv_spec_ratio.specs.Ratio.{Ratio, mul, neg, reciprocal}
+use Rattle.cv_spec_ratio.specs.Order.{lesser, greater}
 use Rattle.cv_calc.specs.declared.unit.Unit as units
 use Rattle.cv_calc.specs.declared.unit.Unit.TheVariants.{Number, Percent, Px}
 use Rattle.cv_calc.specs.declared.context.Basis.{Basis}

@@ -7,10 +7,10 @@ use Rattle.std.specs.Ordering.{ordering_reverse}
 use Rattle.std.proofs.Common.{◌≡◌, ℤ, refl, sym, ◌∙◌, ap, arith, cond}
 use Rattle.std.proofs.lemmas.Int.{ints}
 use Rattle.std.proofs.lemmas.Cmp.{upto}
-use Rattle.cv_ratio.specs.Ratio.{Ratio}
-use Rattle.cv_ratio.specs.Order.{ratio_cmp, at_most, lesser, greater}
-use Rattle.cv_ratio.proofs.LowestTerms.{same_ratio}
-use Rattle.cv_ratio.proofs.Order.{ratio_cmp_total}
+use Rattle.cv_spec_ratio.specs.Ratio.{Ratio}
+use Rattle.cv_spec_ratio.specs.Order.{ratio_cmp, at_most, lesser, greater}
+use Rattle.cv_spec_ratio.proofs.LowestTerms.{same_ratio}
+use Rattle.cv_spec_ratio.proofs.Order.{ratio_cmp_total}
 
 cmp_equal : (a b : ℤ) → int_cmp a b ≡ Equal → a ≡ b
 cmp_equal a b e = go (int_lt a b) (int_lt b a) refl refl e

@@ -1,7 +1,7 @@
 -- The factors of a product stand for its row, and what they show is what the row gives, where it is in bounds.
 use Rattle.std.specs.Prelude.{Bool, true, false, ◌&&◌, List, [], ◌∷◌, ◌++◌, fold, Option, Some, None, option_map, if◌then◌else◌}
 use Rattle.std.proofs.Common.{◌≡◌, refl, sym, ◌∙◌, ap, ap₂}
-use Rattle.cv_ratio.specs.Ratio.{Ratio, mul}
+use Rattle.cv_spec_ratio.specs.Ratio.{Ratio, mul}
 use Rattle.cv_frac.specs.Bounded.{in_bounds}
 use Rattle.cv_calc.specs.declared.unit.Unit as units
 use Rattle.cv_calc.specs.declared.unit.Unit.TheVariants.{Number}

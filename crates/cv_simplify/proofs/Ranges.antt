@@ -2,8 +2,8 @@
 use Rattle.std.specs.Prelude.{Bool, true, false, ◌&&◌, List, [], ◌∷◌, fold, map, Option, Some, None, option_map, if◌then◌else◌}
 use Rattle.std.specs.Option.{option_and_then}
 use Rattle.std.proofs.Common.{◌≡◌, refl, sym, ◌∙◌, ap, ap₂}
-use Rattle.cv_ratio.specs.Ratio.{Ratio, mul}
-use Rattle.cv_ratio.specs.Order.{lesser, greater}
+use Rattle.cv_spec_ratio.specs.Ratio.{Ratio, mul}
+use Rattle.cv_spec_ratio.specs.Order.{lesser, greater}
 use Rattle.cv_frac.specs.Bounded.{in_bounds}
 use Rattle.cv_calc.specs.Factor.{canonical, factor, hundredth, sizes_of}
 use Rattle.cv_calc.specs.declared.unit.Unit as units

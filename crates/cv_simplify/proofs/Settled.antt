@@ -1,8 +1,8 @@
 -- In a simplified calculation the numbers of each sum have units that differ in pairs.
 use Rattle.std.specs.Prelude.{true, ◌&&◌, List, [], ◌∷◌, fold, map, Option, Some, None, option_map}
 use Rattle.std.proofs.Common.{◌≡◌, refl, sym, ◌∙◌, ap, ap₂}
-use Rattle.cv_ratio.specs.Ratio.{Ratio, add, mul, neg, reciprocal}
-use Rattle.cv_ratio.specs.Order.{lesser, greater}
+use Rattle.cv_spec_ratio.specs.Ratio.{Ratio, add, mul, neg, reciprocal}
+use Rattle.cv_spec_ratio.specs.Order.{lesser, greater}
 use Rattle.cv_calc.specs.declared.unit.Unit as units
 use Rattle.cv_calc.specs.declared.unit.Unit.TheVariants.{Number, Percent, Px}
 use Rattle.cv_calc.specs.declared.context.Basis.{Basis}

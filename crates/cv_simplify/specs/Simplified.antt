@@ -2,7 +2,7 @@
 -- "Simplification"). A percentage is compared only where it stands for itself, and a factor is multiplied into a sum of numbers alone.
 -- That the terms which are left keep their order, each number at the place of the first of its unit, is this project's own.
 use Rattle.std.specs.Prelude.{Bool, true, false, ◌&&◌, not, List, [], ◌∷◌, fold, Option, Some, None, option_map, if◌then◌else◌}
-use Rattle.cv_ratio.specs.Ratio.{Ratio, add, mul, neg, reciprocal}
+use Rattle.cv_spec_ratio.specs.Ratio.{Ratio, add, mul, neg, reciprocal}
 use Rattle.cv_calc.specs.declared.unit.Unit.TheVariants.{Number, Percent, Px}
 use Rattle.cv_calc.specs.declared.unit.Unit as units
 use Rattle.cv_calc.specs.declared.context.Basis.{Basis}
@@ -15,7 +15,7 @@ use Rattle.cv_calc.specs.declared.calc.Calc.TheViews.{out-Calc}
 use Rattle.cv_calc.specs.declared.calc.Calc.TheFolds.{fold-Calc}
 use Rattle.cv_calc.specs.Factor.{canonical, factor, hundredth, sizes_of}
 use Rattle.cv_calc.specs.Unit.{same_unit}
-use Rattle.cv_ratio.specs.Order.{lesser, greater}
+use Rattle.cv_spec_ratio.specs.Order.{lesser, greater}
 
 -- ---- a number
 

@@ -5,7 +5,7 @@ use Rattle.std.specs.Fmt.{signed_decimal}
 use Rattle.cv_spec_text.specs.declared.token.Token.{Token}
 use Rattle.cv_spec_text.specs.declared.token.Token.TheVariants as tokens
 use Rattle.cv_spec_text.specs.declared.token.Bracket.TheVariants.{Round}
-use Rattle.cv_ratio.specs.Ratio.{Ratio, neg}
+use Rattle.cv_spec_ratio.specs.Ratio.{Ratio, neg}
 use Rattle.cv_frac.specs.Places.{decimal_places}
 use Rattle.cv_frac.specs.Text.{frac_text}
 use Rattle.cv_calc.specs.declared.unit.Unit as units

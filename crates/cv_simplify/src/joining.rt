@@ -1,7 +1,7 @@
 //! How numbers of one unit are joined.
 
 ghost use Rattle.std.specs.Prelude.{◌≡◌};
-ghost use Rattle.cv_ratio.specs.Order.{lesser as lesser_of, greater as greater_of};
+ghost use Rattle.cv_spec_ratio.specs.Order.{lesser as lesser_of, greater as greater_of};
 ghost use Rattle.cv_simplify.specs.Simplified.{compares_percent as percents_compared, may_compare as may_compare_in};
 ghost use Rattle.cv_simplify.specs.Checked.{may_join as may_join_by, number_joined as number_joined_by, joined_within};
 

@@ -13,8 +13,6 @@ mod rank;
 mod reversed;
 mod row;
 mod single;
-#[cfg(test)]
-mod tests;
 mod text;
 mod tokens;
 

@@ -10,6 +10,3 @@ pub use bounded::Bounded;
 pub use refusal::SubstErr;
 pub use runs::Runs;
 pub use walk::substitute;
-
-#[cfg(test)]
-mod tests;

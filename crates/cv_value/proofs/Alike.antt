@@ -3,7 +3,7 @@ use Rattle.std.proofs.Common.{◌≡◌, List, [], ◌∷◌, map, refl}
 use Rattle.std.specs.Prelude.{nat_lt}
 use Rattle.cv_spec_text.specs.declared.token.Token.{Token}
 use Rattle.cv_component.specs.Nesting.{depth}
-use Rattle.cv_parts.specs.Parts.{is_white, is_comma, parts, filled, trim, has_white_end}
+use Rattle.cv_component.specs.Parts.{is_white, is_comma, parts, filled, trim, has_white_end}
 use Rattle.cv_calc.specs.declared.context.Context.{Context}
 use Rattle.cv_numeric.specs.declared.matched.Matched.TheVariants.{No}
 use Rattle.cv_numeric.specs.declared.quantity.Range.TheVariants.{All}

@@ -1,6 +1,6 @@
 -- What a list is as one item of a kind (Properties and Values API 1, "Supported Names", "Calculation of Computed Values").
 use Rattle.std.specs.Prelude.{ℕ, Bool, true, false, ◌||◌, bytes_eq, codes, List, [], ◌∷◌, if◌then◌else◌}
-use Rattle.cv_ratio.specs.Ratio.{Ratio}
+use Rattle.cv_spec_ratio.specs.Ratio.{Ratio}
 use Rattle.cv_spec_text.specs.Keywords.{is_word, is_css_wide_keyword}
 use Rattle.cv_spec_text.specs.declared.token.Bracket.TheVariants.{Round}
 use Rattle.cv_spec_text.specs.declared.token.Token.{Token}

@@ -2,14 +2,14 @@
 
 ghost use Rattle.std.specs.Prelude.{◌≡◌, ◌∷◌, ◌++◌, [], map, IfOk};
 ghost use Rattle.cv_numeric.specs.Matched.{both};
-ghost use Rattle.cv_parts.specs.Parts.{is_white, is_comma, parts as parts_of, filled, trim};
+ghost use Rattle.cv_component.specs.Parts.{is_white, is_comma, parts as parts_of, filled, trim};
 ghost use Rattle.cv_value.specs.Matching as matching;
 
 use crate::single::item;
 use crate::typed::Item;
 use cv_calc::Context;
 use cv_numeric::Matched;
-use cv_parts::{comma_parts, has_white_end, spaced_parts};
+use cv_component::{comma_parts, has_white_end, spaced_parts};
 use cv_spec_text::Token;
 use cv_syntax::Kind;
 use sqlite_items::Items;

@@ -9,7 +9,7 @@ use Rattle.cv_component.specs.Nesting.{opened, is_kind, nesting_after}
 use Rattle.cv_component.specs.TopLevel.{begins}
 use Rattle.cv_component.specs.Balance.{IsBlock, ends, plain, block}
 use Rattle.cv_component.proofs.Balanced.{nesting_after-opens}
-use Rattle.cv_parts.specs.Parts.{longer, parts_within}
+use Rattle.cv_component.specs.Parts.{longer, parts_within}
 use Rattle.cv_value_laws.specs.Entries.{IsComponentValue, preserved, block as whole_block}
 
 -- the first part begins with these tokens more

@@ -7,8 +7,8 @@ use Rattle.cv_spec_text.specs.declared.token.Token.TheVariants as tokens
 use Rattle.cv_spec_text.specs.declared.token.Token.TheVariants.{White, Str}
 use Rattle.cv_tokser.specs.Clean.{begins_white, begins_string, IsClean}
 use Rattle.cv_component.specs.TopLevel.{begins}
-use Rattle.cv_parts.specs.Parts.{is_white}
-use Rattle.cv_ratio.specs.Ratio.{Ratio}
+use Rattle.cv_component.specs.Parts.{is_white}
+use Rattle.cv_spec_ratio.specs.Ratio.{Ratio}
 use Rattle.cv_calc.specs.declared.unit.Unit.{Unit as CalcUnit}
 use Rattle.cv_calc.specs.declared.unit.Unit.TheVariants as units
 use Rattle.cv_calc.specs.declared.calc.Calc.TheVariants as tree

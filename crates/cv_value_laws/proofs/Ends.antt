@@ -7,8 +7,8 @@ use Rattle.cv_spec_text.specs.declared.token.Token.{Token}
 use Rattle.cv_spec_text.specs.declared.token.Token.TheVariants.{White, Close}
 use Rattle.cv_component.specs.TopLevel.{begins, trim_front}
 use Rattle.cv_component.specs.Balance.{IsBlock, ends, plain, block}
-use Rattle.cv_parts.specs.Parts.{is_white, trim, has_white_end}
-use Rattle.cv_parts.proofs.Ends.{full_end}
+use Rattle.cv_component.specs.Parts.{is_white, trim, has_white_end}
+use Rattle.cv_component.proofs.Ends.{full_end}
 use Rattle.cv_value_laws.specs.Entries.{IsComponentValue, preserved, block as whole_block, IsEntry}
 
 -- the last token isn't whitespace

@@ -4,7 +4,7 @@ use Rattle.std.specs.List.{AllByRecursion as Every}
 use Rattle.std.proofs.Common.{subst}
 use Rattle.cv_spec_text.specs.declared.token.Token.{Token}
 use Rattle.cv_component.specs.Nesting.{depth}
-use Rattle.cv_parts.specs.Parts.{is_white, is_comma, parts, filled, trim, has_white_end}
+use Rattle.cv_component.specs.Parts.{is_white, is_comma, parts, filled, trim, has_white_end}
 use Rattle.cv_calc.specs.declared.context.Context.{Context}
 use Rattle.cv_numeric.specs.declared.matched.Matched.{Matched}
 use Rattle.cv_numeric.specs.declared.matched.Matched.TheVariants.{No, Out, Fit}

@@ -6,7 +6,7 @@ use Rattle.std.proofs.Common.{refl, sym, ◌∙◌, ap, ap₂, subst, append_ass
 use Rattle.cv_spec_text.specs.declared.token.Token.{Token}
 use Rattle.cv_spec_text.specs.declared.token.Token.TheVariants.{White, Comma}
 use Rattle.cv_component.specs.TopLevel.{begins}
-use Rattle.cv_parts.specs.Parts.{is_white, is_comma, longer, parts_within, parts, with_filled, filled, trim, has_white_end}
+use Rattle.cv_component.specs.Parts.{is_white, is_comma, longer, parts_within, parts, with_filled, filled, trim, has_white_end}
 use Rattle.cv_value_laws.specs.Entries.{IsComponentValue, preserved, block, IsEntry}
 use Rattle.cv_value_laws.specs.Lists.{further, joined, EntriesAreSplit}
 use Rattle.cv_value_laws.proofs.Blocks.{lengthened, lengthened-part, parts-value}

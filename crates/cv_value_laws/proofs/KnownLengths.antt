@@ -1,7 +1,7 @@
 -- A length or percentage of a known length is one number of px.
 use Rattle.std.specs.Prelude.{◌≡◌, ℕ, Bool, true, false, not, ◌&&◌, List, [], ◌∷◌, Option, Some, None, Result, Ok, Err, ◌||◌, encode_utf8_all, if◌then◌else◌}
 use Rattle.std.proofs.Common.{refl, sym, ◌∙◌, ap, subst}
-use Rattle.cv_ratio.specs.Ratio.{Ratio, mul, zero_ratio}
+use Rattle.cv_spec_ratio.specs.Ratio.{Ratio, mul, zero_ratio}
 use Rattle.cv_frac.specs.Literal.{is_number}
 use Rattle.cv_spec_text.specs.declared.token.Token.{Token}
 use Rattle.cv_spec_text.specs.declared.token.Token.TheVariants as token

@@ -3,9 +3,9 @@ use Rattle.std.specs.Prelude.{Bool, true, false, pos, negsuc, neg_ℤ, int_lt, �
 use Rattle.std.proofs.Common.{◌≡◌, ℕ, zero, suc, refl, sym, ◌∙◌, ap, ap₂, subst, arith, ℤ}
 use Rattle.std.specs.Ordering.{int_cmp, is_le}
 use Rattle.std.proofs.lemmas.Bool.Decides.{nat_tests}
-use Rattle.cv_ratio.specs.Ratio.{Ratio, ratio, mul, zero_ratio, one_ratio}
-use Rattle.cv_ratio.specs.Order.{at_most, lesser, greater}
-use Rattle.cv_ratio.proofs.Whole.{whole_top, whole_bottom}
+use Rattle.cv_spec_ratio.specs.Ratio.{Ratio, ratio, mul, zero_ratio, one_ratio}
+use Rattle.cv_spec_ratio.specs.Order.{at_most, lesser, greater}
+use Rattle.cv_spec_ratio.proofs.Whole.{whole_top, whole_bottom}
 use Rattle.cv_calc.specs.declared.context.Context.{Context}
 use Rattle.cv_calc.specs.declared.unit.Unit as units
 use Rattle.cv_calc.specs.declared.unit.Unit.TheVariants.{Em, Rem, Ex, Ch, Ic, Vw, Vh, Vmin, Vmax}

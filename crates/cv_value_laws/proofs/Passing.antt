@@ -8,7 +8,7 @@ use Rattle.cv_spec_text.specs.declared.token.Token.{Token}
 use Rattle.cv_spec_text.specs.declared.token.Token.TheVariants.{White}
 use Rattle.cv_component.specs.Nesting.{nesting_after}
 use Rattle.cv_component.specs.TopLevel.{trim_front}
-use Rattle.cv_parts.specs.Parts.{longer, parts_within, parts, with_filled, filled, trim}
+use Rattle.cv_component.specs.Parts.{longer, parts_within, parts, with_filled, filled, trim}
 use Rattle.cv_calc_laws.proofs.Lists.{and_both, both_are}
 
 -- it holds of a list where each token has a property

@@ -6,7 +6,7 @@ use Rattle.std.proofs.Common.{◌≡◌, sym, subst}
 use Rattle.cv_spec_text.specs.declared.token.Token.{Token}
 use Rattle.cv_spec_text.specs.declared.token.Token.TheVariants as tokens
 use Rattle.cv_spec_text.specs.declared.token.Bracket.TheVariants.{Round}
-use Rattle.cv_ratio.specs.Ratio.{Ratio, neg}
+use Rattle.cv_spec_ratio.specs.Ratio.{Ratio, neg}
 use Rattle.cv_frac.specs.Text.{frac_text}
 use Rattle.cv_calc.specs.declared.unit.Unit.{Unit}
 use Rattle.cv_calc.specs.declared.unit.Unit.TheVariants as unit

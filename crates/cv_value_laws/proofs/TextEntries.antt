@@ -7,7 +7,7 @@ use Rattle.cv_spec_text.specs.declared.token.Token.{Token}
 use Rattle.cv_spec_text.specs.declared.token.Token.TheVariants as tokens
 use Rattle.cv_component.specs.Nesting.{opened}
 use Rattle.cv_component.specs.Balance.{IsBlock, ends, plain, block}
-use Rattle.cv_ratio.specs.Ratio.{Ratio}
+use Rattle.cv_spec_ratio.specs.Ratio.{Ratio}
 use Rattle.cv_frac.specs.Text.{frac_text}
 use Rattle.cv_calc.specs.declared.unit.Unit.{Unit}
 use Rattle.cv_calc.specs.declared.unit.Unit.TheVariants as units

@@ -19,7 +19,7 @@ use Rattle.cv_tokser.proofs.Kept.{written-kept, kept-scalars, kept-preprocessed}
 use Rattle.cv_tokser.proofs.ListsBack.{lists_back}
 use Rattle.cv_tokser.proofs.Spelt.{are_well_formed}
 use Rattle.cv_component.specs.TopLevel.{trim_front}
-use Rattle.cv_ratio.specs.Ratio.{Ratio}
+use Rattle.cv_spec_ratio.specs.Ratio.{Ratio}
 use Rattle.cv_calc.specs.declared.unit.Unit.{Unit as CalcUnit}
 use Rattle.cv_calc.specs.declared.unit.Unit.TheVariants as units
 use Rattle.cv_calc.specs.declared.calc.Calc.{Calc}

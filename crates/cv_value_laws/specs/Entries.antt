@@ -5,7 +5,7 @@ use Rattle.cv_spec_text.specs.declared.token.Token.{Token}
 use Rattle.cv_component.specs.Nesting.{opened}
 use Rattle.cv_component.specs.TopLevel.{begins}
 use Rattle.cv_component.specs.Balance.{IsBlock}
-use Rattle.cv_parts.specs.Parts.{is_white, is_comma}
+use Rattle.cv_component.specs.Parts.{is_white, is_comma}
 
 -- one token that opens no bracket, or a block or function up to its closing bracket
 pub data IsComponentValue : List Token → Type 0 where

@@ -2,7 +2,7 @@
 use Rattle.std.specs.Prelude.{◌≡◌, false, List, [], ◌∷◌, ◌++◌, map, All}
 use Rattle.cv_spec_text.specs.declared.token.Token.{Token}
 use Rattle.cv_spec_text.specs.declared.token.Token.TheVariants.{White, Comma}
-use Rattle.cv_parts.specs.Parts.{is_white, is_comma, parts, filled, trim, has_white_end}
+use Rattle.cv_component.specs.Parts.{is_white, is_comma, parts, filled, trim, has_white_end}
 use Rattle.cv_value.specs.declared.typed.Item.{Item}
 use Rattle.cv_value.specs.declared.typed.Typed.{Typed}
 use Rattle.cv_value.specs.declared.typed.Typed.TheVariants.{Spaces, Commas}

@@ -1,7 +1,7 @@
 -- A length or percentage of a known length, as a font size is given, is one number of px (CSS Values and Units 4, "Mixing Percentages and
 -- Dimensions"), which isn't negative where only such numbers are in range ("Range Restrictions and Range Definition Notation").
 use Rattle.std.specs.Prelude.{◌≡◌, false, pos, int_lt, List}
-use Rattle.cv_ratio.specs.Ratio.{Ratio}
+use Rattle.cv_spec_ratio.specs.Ratio.{Ratio}
 use Rattle.cv_spec_text.specs.declared.token.Token.{Token}
 use Rattle.cv_calc.specs.declared.unit.Unit.TheVariants.{Px}
 use Rattle.cv_calc.specs.declared.context.Basis.TheVariants.{Of}

@@ -17,6 +17,3 @@ pub use flat::Part;
 pub use laws::{checked_lists_hold_no_var, pieces_are_read};
 pub use refusal::VarErr;
 pub use segment::Segment;
-
-#[cfg(test)]
-mod tests;

@@ -1,6 +1,6 @@
 use Rattle.std.proofs.Common.{arith}
 use Rattle.std.proofs.lemmas.Nat.Gcd.{IsGcd-from_zero, IsGcd-from_mod, same_from_IsGcd}
-use Rattle.cv_ratio.specs.Cancelled.{gcd_is}
+use Rattle.cv_spec_ratio.specs.Cancelled.{gcd_is}
 use Rattle.cv_frac.proofs.divisor.gcd.Goals as goal
 
 pub loop-y-preserved : goal.loop-y-preserved

@@ -1,7 +1,7 @@
 use Rattle.std.proofs.Common.{◌≡◌, subst, sym, pos, w64, to_z, of_z, arith, ℤ, ◌<◌}
 use Rattle.std.specs.Prelude.{unsigned_abs, ◌^◌}
 use Rattle.std.proofs.lemmas.Int.{ints}
-use Rattle.cv_ratio.specs.Cancelled.{gcd_one}
+use Rattle.cv_spec_ratio.specs.Cancelled.{gcd_one}
 use Rattle.cv_frac.proofs.frac.Frac.whole.Goals as goal
 
 pub invariant_of-result : goal.invariant_of-result

@@ -1,5 +1,0 @@
-use Rattle.cv_calc_readback.proofs.Numbers as numbers
-use Rattle.cv_calc_readback.proofs.laws.numbers_read_back.Goals as goal
-
-pub returns : goal.returns
-returns c = numbers.numbers_read_back

@@ -1,4 +1,0 @@
-use Rattle.cv_cycle.proofs.tests.a_ring_of_a_million.Given as goal
-
-abbrev pub ghosts-count_cyclic : goal.ghosts-count_cyclic
-ghosts-count_cyclic g a = record { name = a.blank.name; parts = a.blank.parts }

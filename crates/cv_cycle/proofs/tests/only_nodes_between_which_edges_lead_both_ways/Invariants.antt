@@ -1,4 +1,0 @@
-use Rattle.cv_cycle.proofs.tests.only_nodes_between_which_edges_lead_both_ways.Given as goal
-
-abbrev pub ghosts-flags : goal.ghosts-flags
-ghosts-flags g a = record { name = a.blank.name; parts = a.blank.parts }

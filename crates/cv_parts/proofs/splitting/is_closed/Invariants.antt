@@ -1,6 +1,0 @@
-use Rattle.std.proofs.Common.{◌≡◌, [], drop}
-use Rattle.cv_component.specs.Nesting.{nesting_past}
-use Rattle.cv_parts.proofs.splitting.is_closed.Given as goal
-
-abbrev pub invariant-loop-token : goal.invariant-loop-token
-invariant-loop-token l = nesting_past l.nesting (drop l.token-index l.tokens) ≡ nesting_past [] l.tokens

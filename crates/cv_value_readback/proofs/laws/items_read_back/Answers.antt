@@ -1,5 +1,0 @@
-use Rattle.cv_value_readback.proofs.Items as items
-use Rattle.cv_value_readback.proofs.laws.items_read_back.Goals as goal
-
-pub returns : goal.returns
-returns c = items.items_read_back

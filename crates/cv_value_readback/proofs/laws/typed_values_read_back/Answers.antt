@@ -1,5 +1,0 @@
-use Rattle.cv_value_readback.proofs.Typed as typed
-use Rattle.cv_value_readback.proofs.laws.typed_values_read_back.Goals as goal
-
-pub returns : goal.returns
-returns c = typed.typed_values_read_back
