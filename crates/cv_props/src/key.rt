@@ -1,4 +1,5 @@
-// The names of properties.
+//! The names of properties.
+
 ghost use Rattle.std.specs.Prelude.{◌≡◌, ◌++◌, chars, IfOk, OnOk, OnErr};
 ghost use Rattle.std.specs.Cmp.{partial_equiv_from_equiv};
 ghost use Rattle.cv_props.specs.Keys.{key_input, key_named, key_text, same_key};

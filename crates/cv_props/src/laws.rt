@@ -1,4 +1,5 @@
-// What the tables keep.
+//! What the tables keep.
+
 ghost use Rattle.cv_props.specs.TableLaws.{PropertiesAreFound};
 ghost use Rattle.cv_props.specs.ValuationLaws.{OutcomesAreByKey};
 ghost use Rattle.cv_props.specs.WinnerLaws.{WinnersAreByKey};

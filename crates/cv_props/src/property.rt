@@ -1,4 +1,5 @@
-// The ordinary properties.
+//! The ordinary properties.
+
 ghost use Rattle.std.specs.Prelude.{◌≡◌, IsAscii, find, slice_get};
 ghost use Rattle.cv_props.specs.Table.{inherits, is_name_of, name_of, number_of, numbered, property_named};
 

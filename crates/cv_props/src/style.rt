@@ -1,4 +1,5 @@
-// The declarations of a style.
+//! The declarations of a style.
+
 ghost use Rattle.std.specs.Prelude.{◌≡◌, ◌++◌, ◌<◌, ◌≤◌, false, None, length, All, Ok, IfOk, IfErr, OnOk};
 ghost use Rattle.cv_spec_text.specs.Splits.{IsSpelt};
 ghost use Rattle.cv_component.specs.Items.{items};

@@ -1,4 +1,5 @@
-// Commands of a document: `compute` uses none, and refuses each bad one.
+//! Commands of a document: `compute` uses none, and refuses each bad one.
+
 use crate::running::{COMPUTE, refuses, reports};
 use std::alloc::{AllocError, Global};
 use std::test::Fail;

@@ -1,4 +1,5 @@
-// Brackets within brackets, of documents and of declarations.
+//! Brackets within brackets, of documents and of declarations.
+
 use crate::long::nested;
 use crate::running::{COMPUTE, refuses, reports};
 use std::test::Fail;

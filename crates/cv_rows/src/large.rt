@@ -1,4 +1,5 @@
-// Documents at their limits and one past them.
+//! Documents at their limits and one past them.
+
 use crate::long::repeated;
 use crate::running::{COMPUTE, refuses, reports};
 use std::alloc::{AllocError, Global};

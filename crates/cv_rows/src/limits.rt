@@ -1,4 +1,5 @@
-// The token limit: lists at it, and lists one token past it.
+//! The token limit: lists at it, and lists one token past it.
+
 use crate::long::repeated;
 use crate::running::{COMPUTE, reports};
 use std::alloc::{AllocError, Global};

@@ -1,4 +1,5 @@
-// Long texts, made of short ones.
+//! Long texts, made of short ones.
+
 use std::alloc::{AllocError, Global};
 
 /// A text, an item so often, and a text.

@@ -1,4 +1,5 @@
-// Names as JSON and styles spell them, and as a report writes them.
+//! Names as JSON and styles spell them, and as a report writes them.
+
 use crate::running::{COMPUTE, reports};
 use std::test::Fail;
 

@@ -1,4 +1,5 @@
-// Every pair of kinds of tokens, printed side by side and read back.
+//! Every pair of kinds of tokens, printed side by side and read back.
+
 use cv_spec_text::{OutOfMemory, Token};
 use cv_token::tokenise;
 use cv_tokser::{joins, print};

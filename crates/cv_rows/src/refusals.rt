@@ -1,4 +1,5 @@
-// Inputs and words that are refused, each with its exit number and its line; `out` takes nothing.
+//! Inputs and words that are refused, each with its exit number and its line; `out` takes nothing.
+
 use crate::running::{COMPUTE, refuses, reports};
 use std::alloc::{AllocError, Global};
 use std::test::Fail;

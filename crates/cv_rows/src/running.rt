@@ -1,4 +1,5 @@
-// Runs over streams in memory that never fail, and what they have to write.
+//! Runs over streams in memory that never fail, and what they have to write.
+
 use cv_io::{SureSink, SureSource};
 use cv_run::run;
 use std::alloc::{AllocError, Global};

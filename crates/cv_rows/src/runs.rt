@@ -1,4 +1,5 @@
-// Documents that are computed, each with its report.
+//! Documents that are computed, each with its report.
+
 use crate::running::{COMPUTE, reports};
 use std::test::Fail;
 

@@ -1,4 +1,5 @@
-// Streams that fail in mid-stream.
+//! Streams that fail in mid-stream.
+
 use crate::running::{COMPUTE, strings};
 use cv_io::{MemSink, MemSource, SureSink, SureSource};
 use cv_run::{Status, run};

@@ -1,4 +1,5 @@
-// Texts through the tokeniser, the printer and the splitters, compared by how the answers are printed.
+//! Texts through the tokeniser, the printer and the splitters, compared by how the answers are printed.
+
 use cv_component::{declarations, rules};
 use cv_spec_text::OutOfMemory;
 use cv_token::tokenise;

@@ -1,3 +1,5 @@
+//! Laws of the equations of an element.
+
 ghost use Rattle.std.specs.Prelude.{◌≡◌, ℕ, ◌<◌, ◌↔◌, true, List, length, Ok, IsSome, ◌⊎◌};
 ghost use Rattle.cv_spec_element.specs.Pieces.{Pieces, reference_or, RefersTo};
 ghost use Rattle.cv_spec_element.specs.Walks.{IsCyclic};

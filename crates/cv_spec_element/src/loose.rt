@@ -1,3 +1,5 @@
+//! Laws of elements of unregistered names.
+
 ghost use Rattle.std.specs.Prelude.{◌≡◌, ℕ, ◌<◌, ◌⊎◌, Bool, ◌↔◌, List, length, Option, IsSome};
 ghost use Rattle.cv_spec_element.specs.Walks.{IsCyclic};
 ghost use Rattle.cv_spec_element.specs.Keywords.{Keyword};

@@ -1,4 +1,5 @@
-// Substitution, one part at a time.
+//! Substitution, one part at a time.
+
 ghost use Rattle.std.specs.Prelude.{◌≡◌, ◌⊎◌, ◌<◌, ◌≤◌, ◌+◌, ◌^◌, ◌++◌, ℕ, List, All, length, ◌∷◌, IfOk, IfErr, OnOk, IsErrOf, Ok, Err};
 ghost use Rattle.cv_spec_element.specs.Pieces.{sub, joined};
 ghost use Rattle.cv_spec_text.specs.Splits.{IsSpelt};

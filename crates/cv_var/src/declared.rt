@@ -1,4 +1,5 @@
-// A checked list.
+//! A checked list.
+
 ghost use Rattle.std.specs.Prelude.{◌≡◌, ◌⊎◌, ◌↔◌, ◌<◌, ◌^◌, ℕ, List, All, Contains, bytes_eq, IfOk, IfErr, OnOk, IfSome, IsErrOf, Err, length, option_map, slice_get};
 ghost use Rattle.std.specs.List.{IsDistinct};
 ghost use Rattle.cv_component.specs.Nesting.{depth};

@@ -1,4 +1,5 @@
-// The names that a list refers to.
+//! The names that a list refers to.
+
 ghost use Rattle.std.specs.Prelude.{◌≡◌, [], ◌∷◌, fold, bytes_eq, IfOk, OnOk};
 ghost use Rattle.std.specs.List.{IsDistinct};
 ghost use Rattle.cv_var.specs.Flat.{flat};

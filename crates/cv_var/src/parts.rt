@@ -1,4 +1,5 @@
-// The parts of a list, as it keeps them.
+//! The parts of a list, as it keeps them.
+
 ghost use Rattle.std.specs.Prelude.{◌≡◌, ◌≤◌, ◌++◌, ◌∷◌, vec_len, length, map, Some, IfOk, OnOk};
 ghost use Rattle.cv_var.specs.Flat.{flattened};
 ghost use Rattle.cv_var.specs.Places.{flat_at, stretch};
