@@ -14,10 +14,10 @@ use Rattle.std.proofs.lemmas.Map.Steps.{length-le_from_distinct_below}
 use Rattle.std.proofs.lemmas.Map.Views.{Contains-from_any}
 use Rattle.std.proofs.lemmas.Slice.Eq.{bytes_eq-Decides}
 use Rattle.cv_graph.specs.Edges.{targets, edge_count}
-use Rattle.cv_props.specs.declared.key.Key.{Key}
-use Rattle.cv_props.specs.declared.key.Key.TheVariants.{Custom}
-use Rattle.cv_props.specs.Keys.{same_key, code_of}
-use Rattle.cv_props.specs.KeyLaws.{same_code}
+use Rattle.cv_valuation.specs.declared.key.Key.{Key}
+use Rattle.cv_valuation.specs.declared.key.Key.TheVariants.{Custom}
+use Rattle.cv_valuation.specs.Keys.{same_key, code_of}
+use Rattle.cv_valuation.specs.KeyLaws.{same_code}
 use Rattle.cv_props.specs.Winners.{Declarations, declaration_of}
 use Rattle.cv_element.specs.Counting.{references_in, reference_count}
 use Rattle.cv_element.specs.Names.{name_at}

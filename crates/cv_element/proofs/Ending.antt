@@ -11,15 +11,15 @@ use Rattle.cv_spec_element.specs.Dependencies.{undeclared_value}
 use Rattle.cv_spec_element.specs.Valuation.{Cause, IsInvalid, IsSettled, undeclared}
 use Rattle.cv_spec_element.specs.Loose.{loose_outcome, IsLooselyLawful}
 use Rattle.cv_subst.specs.Values.{value_in}
-use Rattle.cv_props.specs.declared.computed.Cause.{Cause as Reported}
+use Rattle.cv_valuation.specs.declared.computed.Cause.{Cause as Reported}
 use Rattle.cv_props.specs.declared.decls.Decl.{Decl}
-use Rattle.cv_props.specs.declared.key.Key.{Key}
-use Rattle.cv_props.specs.declared.key.Key.TheVariants.{Custom, Table}
-use Rattle.cv_props.specs.declared.property.Property.TheVariants.{FontSize}
-use Rattle.cv_props.specs.Keys.{same_key}
-use Rattle.cv_props.specs.TableLaws.{PropertiesAreFound}
-use Rattle.cv_props.specs.Valuations.{Values, outcome_of, outcome_at}
-use Rattle.cv_props.specs.ValuationLaws.{OutcomesAreByKey}
+use Rattle.cv_valuation.specs.declared.key.Key.{Key}
+use Rattle.cv_valuation.specs.declared.key.Key.TheVariants.{Custom, Table}
+use Rattle.cv_property.specs.declared.property.Property.TheVariants.{FontSize}
+use Rattle.cv_valuation.specs.Keys.{same_key}
+use Rattle.cv_property.specs.TableLaws.{PropertiesAreFound}
+use Rattle.cv_valuation.specs.Valuations.{Values, outcome_of, outcome_at}
+use Rattle.cv_valuation.specs.ValuationLaws.{OutcomesAreByKey}
 use Rattle.cv_props.specs.Winners.{Declarations, declaration_of}
 use Rattle.cv_element.specs.declared.settling.Settling.{Settling}
 use Rattle.cv_element.specs.Element.{pieces_in, declared_in, is_white, keyword, lists_in, the_element, as_read, values_of, cause_of, ParentIsKept}

@@ -9,16 +9,16 @@ use Rattle.cv_spec_element.specs.Element.{Element, Outcome, tokens, typed, inval
 use Rattle.cv_spec_element.specs.Dependencies.{undeclared_value}
 use Rattle.cv_spec_element.specs.Valuation.{Cause, cycle, missing, limit, mismatch, IsInvalid, Gives, IsValuation, HasOneCause}
 use Rattle.cv_spec_element.specs.Valuation as gives
-use Rattle.cv_props.specs.declared.computed.Cause.{Cause as Reported}
-use Rattle.cv_props.specs.declared.computed.Cause.TheVariants as reported
-use Rattle.cv_props.specs.declared.computed.Computed.{Computed}
-use Rattle.cv_props.specs.declared.key.Key.{Key}
-use Rattle.cv_props.specs.declared.key.Key.TheVariants.{Custom, Table}
-use Rattle.cv_props.specs.declared.outcome.Outcome.{Outcome as Kept}
-use Rattle.cv_props.specs.declared.outcome.Outcome.TheVariants as kept
-use Rattle.cv_props.specs.TableLaws.{PropertiesAreFound}
-use Rattle.cv_props.specs.Valuations.{Values, outcome_at, with_outcome}
-use Rattle.cv_props.specs.ValuationLaws.{OutcomesAreByKey}
+use Rattle.cv_valuation.specs.declared.computed.Cause.{Cause as Reported}
+use Rattle.cv_valuation.specs.declared.computed.Cause.TheVariants as reported
+use Rattle.cv_valuation.specs.declared.computed.Computed.{Computed}
+use Rattle.cv_valuation.specs.declared.key.Key.{Key}
+use Rattle.cv_valuation.specs.declared.key.Key.TheVariants.{Custom, Table}
+use Rattle.cv_valuation.specs.declared.outcome.Outcome.{Outcome as Kept}
+use Rattle.cv_valuation.specs.declared.outcome.Outcome.TheVariants as kept
+use Rattle.cv_property.specs.TableLaws.{PropertiesAreFound}
+use Rattle.cv_valuation.specs.Valuations.{Values, outcome_at, with_outcome}
+use Rattle.cv_valuation.specs.ValuationLaws.{OutcomesAreByKey}
 use Rattle.cv_props.specs.Winners.{Declarations}
 use Rattle.cv_element.specs.Element.{the_element, as_read, values_of, cause_of, Faults, IsOnce, IsComputed}
 use Rattle.cv_element.specs.FaultNames.{named, fault_of}

@@ -14,15 +14,15 @@ use Rattle.cv_spec_element.specs.Valuation.{Cause, cycle, missing, limit, mismat
 use Rattle.cv_spec_element.specs.Valuation as gives
 use Rattle.cv_spec_element.specs.Loose.{loose_parent}
 use Rattle.cv_var.specs.References.{pieces_of}
-use Rattle.cv_props.specs.declared.computed.Cause.{Cause as Reported}
-use Rattle.cv_props.specs.declared.computed.Cause.TheVariants as reported
+use Rattle.cv_valuation.specs.declared.computed.Cause.{Cause as Reported}
+use Rattle.cv_valuation.specs.declared.computed.Cause.TheVariants as reported
 use Rattle.cv_props.specs.declared.decls.Decl.{Decl}
-use Rattle.cv_props.specs.declared.key.Key.{Key}
-use Rattle.cv_props.specs.declared.key.Key.TheVariants.{Custom}
-use Rattle.cv_props.specs.declared.outcome.Outcome.{Outcome as Kept}
-use Rattle.cv_props.specs.declared.outcome.Outcome.TheVariants as kept
-use Rattle.cv_props.specs.Valuations.{Values, outcome_of, outcome_at, trim}
-use Rattle.cv_props.specs.Valuations as valuations
+use Rattle.cv_valuation.specs.declared.key.Key.{Key}
+use Rattle.cv_valuation.specs.declared.key.Key.TheVariants.{Custom}
+use Rattle.cv_valuation.specs.declared.outcome.Outcome.{Outcome as Kept}
+use Rattle.cv_valuation.specs.declared.outcome.Outcome.TheVariants as kept
+use Rattle.cv_valuation.specs.Valuations.{Values, outcome_of, outcome_at, trim}
+use Rattle.cv_valuation.specs.Valuations as valuations
 use Rattle.cv_props.specs.Winners.{Declarations, declaration_of}
 use Rattle.cv_element.specs.Element.{keyed, pieces_in, lists_in, the_element, as_read, values_of, cause_of}
 use Rattle.cv_element.specs.Answers.{IsAnswer, word_of, keyword_in, outcome_by}

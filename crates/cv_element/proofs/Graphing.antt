@@ -21,9 +21,9 @@ use Rattle.cv_spec_element.specs.Dependencies.{Edge, DependsOnItself}
 use Rattle.cv_spec_element.specs.Numbering.{NumberEdge, IsNumbering}
 use Rattle.cv_var.specs.References.{pieces_of}
 use Rattle.cv_props.specs.declared.decls.Decl.{Decl}
-use Rattle.cv_props.specs.declared.key.Key.{Key}
-use Rattle.cv_props.specs.declared.key.Key.TheVariants.{Custom}
-use Rattle.cv_props.specs.Valuations.{Values}
+use Rattle.cv_valuation.specs.declared.key.Key.{Key}
+use Rattle.cv_valuation.specs.declared.key.Key.TheVariants.{Custom}
+use Rattle.cv_valuation.specs.Valuations.{Values}
 use Rattle.cv_props.specs.Winners.{Declarations, declaration_of}
 use Rattle.cv_element.specs.Element.{pieces_in, the_element}
 use Rattle.cv_element.specs.Names.{name_at, Connects, IsNumbered, IsReference}

@@ -8,15 +8,15 @@ use Rattle.cv_spec_text.specs.declared.token.Token.{Token}
 use Rattle.cv_spec_text.specs.declared.token.Token.TheVariants.{Ident}
 use Rattle.cv_spec_element.specs.Words.{lone_keyword, keyword_of}
 use Rattle.cv_var.specs.References.{has_var, HoldNoVar}
-use Rattle.cv_props.specs.declared.key.Key.{Key}
-use Rattle.cv_props.specs.declared.outcome.Outcome.{Outcome as Kept}
-use Rattle.cv_props.specs.declared.outcome.Outcome.TheVariants as kept
-use Rattle.cv_props.specs.Keys.{is_custom_key}
-use Rattle.cv_props.specs.Valuations.{Values, trim, is_keyword, IsKept, MayKeep, outcome_of, outcome_at, with_outcome}
-use Rattle.cv_props.specs.Valuations as valuations
-use Rattle.cv_props.specs.ValuationLaws.{OutcomesAreByKey}
-use Rattle.cv_props.specs.TableLaws.{PropertiesAreFound}
-use Rattle.cv_props.specs.declared.key.Key.TheVariants.{Custom}
+use Rattle.cv_valuation.specs.declared.key.Key.{Key}
+use Rattle.cv_valuation.specs.declared.outcome.Outcome.{Outcome as Kept}
+use Rattle.cv_valuation.specs.declared.outcome.Outcome.TheVariants as kept
+use Rattle.cv_valuation.specs.Keys.{is_custom_key}
+use Rattle.cv_valuation.specs.Valuations.{Values, trim, is_keyword, IsKept, MayKeep, outcome_of, outcome_at, with_outcome}
+use Rattle.cv_valuation.specs.Valuations as valuations
+use Rattle.cv_valuation.specs.ValuationLaws.{OutcomesAreByKey}
+use Rattle.cv_property.specs.TableLaws.{PropertiesAreFound}
+use Rattle.cv_valuation.specs.declared.key.Key.TheVariants.{Custom}
 use Rattle.cv_spec_element.specs.Pieces.{Pieces, finish, token, reference, reference_or, value_or, joined, sub}
 use Rattle.cv_element.specs.Answers.{word_of, keyword_in, outcome_by}
 use Rattle.cv_element.specs.Answers as answers

@@ -7,11 +7,11 @@ use Rattle.cv_spec_element.specs.Element.{Element, Outcome}
 use Rattle.cv_spec_element.specs.Dependencies.{tokens_of}
 use Rattle.cv_spec_element.specs.Valuation.{Cause, cycle, missing, limit, mismatch, IsInvalid}
 use Rattle.cv_var.specs.References.{pieces_of}
-use Rattle.cv_props.specs.declared.computed.Cause.{Cause as Reported}
-use Rattle.cv_props.specs.declared.computed.Cause.TheVariants as reported
-use Rattle.cv_props.specs.declared.key.Key.{Key}
-use Rattle.cv_props.specs.declared.key.Key.TheVariants.{Custom}
-use Rattle.cv_props.specs.Valuations.{Values}
+use Rattle.cv_valuation.specs.declared.computed.Cause.{Cause as Reported}
+use Rattle.cv_valuation.specs.declared.computed.Cause.TheVariants as reported
+use Rattle.cv_valuation.specs.declared.key.Key.{Key}
+use Rattle.cv_valuation.specs.declared.key.Key.TheVariants.{Custom}
+use Rattle.cv_valuation.specs.Valuations.{Values}
 use Rattle.cv_props.specs.Winners.{Declarations, declaration_of}
 use Rattle.cv_element.specs.Element.{the_element, cause_of, Faults, IsReported}
 use Rattle.cv_element.proofs.Keying.{with_key, sub-keyed}

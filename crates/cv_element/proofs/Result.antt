@@ -3,9 +3,9 @@ use Rattle.std.proofs.Common.{◌≡◌, ℕ, Option, Some, None, sym, ◌∙◌
 use Rattle.cv_spec_text.specs.declared.token.Token.{Token}
 use Rattle.cv_spec_element.specs.Element.{Outcome}
 use Rattle.cv_spec_element.specs.Valuation.{IsValuation, HasOneValuation}
-use Rattle.cv_props.specs.declared.key.Key.{Key}
-use Rattle.cv_props.specs.Valuations.{Values, MayKeep}
-use Rattle.cv_props.specs.ValuationLaws.{OutcomesAreByKey}
+use Rattle.cv_valuation.specs.declared.key.Key.{Key}
+use Rattle.cv_valuation.specs.Valuations.{Values, MayKeep}
+use Rattle.cv_valuation.specs.ValuationLaws.{OutcomesAreByKey}
 use Rattle.cv_props.specs.Winners.{Declarations}
 use Rattle.cv_element.specs.Element.{the_element, values_of, AreKept, ParentIsKept}
 use Rattle.cv_element.specs.Settling.{start_of}

@@ -5,14 +5,14 @@ use Rattle.std.specs.Map.{keys_of}
 use Rattle.cv_spec_text.specs.declared.token.Token.{Token}
 use Rattle.cv_spec_element.specs.Element.{Element, Outcome}
 use Rattle.cv_spec_element.specs.Valuation.{Cause, IsInvalid, IsValuation, HasOneValuation, HasOneCause}
-use Rattle.cv_props.specs.declared.computed.Cause.{Cause as Reported}
-use Rattle.cv_props.specs.declared.computed.Computed.{Computed}
-use Rattle.cv_props.specs.declared.key.Key.{Key}
-use Rattle.cv_props.specs.declared.outcome.Outcome.{Outcome as Kept}
-use Rattle.cv_props.specs.declared.outcome.Outcome.TheVariants as kept
-use Rattle.cv_props.specs.Valuations.{Values, outcome_at}
-use Rattle.cv_props.specs.TableLaws.{PropertiesAreFound}
-use Rattle.cv_props.specs.ValuationLaws.{OutcomesAreByKey}
+use Rattle.cv_valuation.specs.declared.computed.Cause.{Cause as Reported}
+use Rattle.cv_valuation.specs.declared.computed.Computed.{Computed}
+use Rattle.cv_valuation.specs.declared.key.Key.{Key}
+use Rattle.cv_valuation.specs.declared.outcome.Outcome.{Outcome as Kept}
+use Rattle.cv_valuation.specs.declared.outcome.Outcome.TheVariants as kept
+use Rattle.cv_valuation.specs.Valuations.{Values, outcome_at}
+use Rattle.cv_property.specs.TableLaws.{PropertiesAreFound}
+use Rattle.cv_valuation.specs.ValuationLaws.{OutcomesAreByKey}
 use Rattle.cv_props.specs.Winners.{Declarations}
 use Rattle.cv_element.specs.Element.{the_element, as_read, values_of, cause_of, IsComputed}
 use Rattle.cv_element.specs.Single.{HasOneResult, ParentHoldsNoKeyword, TellsTheSame}

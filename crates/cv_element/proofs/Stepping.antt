@@ -14,12 +14,12 @@ use Rattle.cv_spec_element.specs.Dependencies.{Reads, DependsOnItself, undeclare
 use Rattle.cv_spec_element.specs.Valuation.{Cause, IsInvalid, Gives}
 use Rattle.cv_subst.specs.Values.{value_in}
 use Rattle.cv_var.specs.References.{pieces_of}
-use Rattle.cv_props.specs.declared.computed.Cause.{Cause as Reported}
+use Rattle.cv_valuation.specs.declared.computed.Cause.{Cause as Reported}
 use Rattle.cv_props.specs.declared.decls.Decl.{Decl}
-use Rattle.cv_props.specs.declared.key.Key.{Key}
-use Rattle.cv_props.specs.declared.key.Key.TheVariants.{Custom}
-use Rattle.cv_props.specs.Valuations.{Values, outcome_of, outcome_at}
-use Rattle.cv_props.specs.ValuationLaws.{OutcomesAreByKey}
+use Rattle.cv_valuation.specs.declared.key.Key.{Key}
+use Rattle.cv_valuation.specs.declared.key.Key.TheVariants.{Custom}
+use Rattle.cv_valuation.specs.Valuations.{Values, outcome_of, outcome_at}
+use Rattle.cv_valuation.specs.ValuationLaws.{OutcomesAreByKey}
 use Rattle.cv_props.specs.Winners.{Declarations, declaration_of}
 use Rattle.cv_element.specs.declared.settling.Settling.{Settling}
 use Rattle.cv_element.specs.Element.{keyed, pieces_in, the_element, as_read, values_of, cause_of, Faults, IsOnce}

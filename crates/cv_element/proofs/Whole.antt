@@ -7,10 +7,10 @@ use Rattle.cv_spec_text.specs.declared.token.Token.{Token}
 use Rattle.cv_spec_element.specs.Element.{Outcome}
 use Rattle.cv_spec_element.specs.Valuation.{Cause, IsInvalid}
 use Rattle.cv_props.specs.declared.decls.Decl.{Decl}
-use Rattle.cv_props.specs.declared.key.Key.{Key}
-use Rattle.cv_props.specs.declared.key.Key.TheVariants.{Custom}
-use Rattle.cv_props.specs.Valuations.{Values}
-use Rattle.cv_props.specs.ValuationLaws.{OutcomesAreByKey}
+use Rattle.cv_valuation.specs.declared.key.Key.{Key}
+use Rattle.cv_valuation.specs.declared.key.Key.TheVariants.{Custom}
+use Rattle.cv_valuation.specs.Valuations.{Values}
+use Rattle.cv_valuation.specs.ValuationLaws.{OutcomesAreByKey}
 use Rattle.cv_props.specs.Winners.{Declarations, declaration_of}
 use Rattle.cv_element.specs.declared.settling.Settling.{Settling}
 use Rattle.cv_element.specs.Element.{the_element}

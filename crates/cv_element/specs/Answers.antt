@@ -3,11 +3,11 @@ use Rattle.std.specs.Prelude.{ℕ, ◌≡◌, ◌<◌, ◌≤◌, Bool, true, fa
 use Rattle.cv_spec_text.specs.Keywords.{is_word, is_css_wide_keyword}
 use Rattle.cv_spec_text.specs.declared.token.Token.{Token}
 use Rattle.cv_spec_text.specs.declared.token.Token.TheVariants.{Ident}
-use Rattle.cv_props.specs.declared.computed.Cause.{Cause}
-use Rattle.cv_props.specs.declared.computed.Cause.TheVariants.{Cycle, Missing, Limit}
-use Rattle.cv_props.specs.declared.outcome.Outcome.{Outcome}
-use Rattle.cv_props.specs.declared.outcome.Outcome.TheVariants.{Tokens, Invalid}
-use Rattle.cv_props.specs.Valuations.{trim}
+use Rattle.cv_valuation.specs.declared.computed.Cause.{Cause}
+use Rattle.cv_valuation.specs.declared.computed.Cause.TheVariants.{Cycle, Missing, Limit}
+use Rattle.cv_valuation.specs.declared.outcome.Outcome.{Outcome}
+use Rattle.cv_valuation.specs.declared.outcome.Outcome.TheVariants.{Tokens, Invalid}
+use Rattle.cv_valuation.specs.Valuations.{trim}
 
 -- the substituted list, or why there is none, of a property that is on a cycle or not
 abbrev pub IsAnswer : Bool → Result (List Token) (List ℕ) → ℕ → Result (List Token) Cause → Type 0

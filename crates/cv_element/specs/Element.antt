@@ -14,17 +14,17 @@ use Rattle.cv_spec_element.specs.Element.{Outcome, tokens, invalid, Declarations
 use Rattle.cv_spec_element.specs.Loose.{loose_element}
 use Rattle.cv_spec_element.specs.Valuation.{Cause, cycle, missing, limit, IsInvalid, IsValuation}
 use Rattle.cv_var.specs.References.{pieces_of}
-use Rattle.cv_props.specs.declared.computed.Cause.{Cause as Reported}
-use Rattle.cv_props.specs.declared.computed.Cause.TheVariants as reported
-use Rattle.cv_props.specs.declared.computed.Computed.{Computed}
+use Rattle.cv_valuation.specs.declared.computed.Cause.{Cause as Reported}
+use Rattle.cv_valuation.specs.declared.computed.Cause.TheVariants as reported
+use Rattle.cv_valuation.specs.declared.computed.Computed.{Computed}
 use Rattle.cv_props.specs.declared.decls.Decl.{Decl}
-use Rattle.cv_props.specs.declared.key.Key.{Key}
-use Rattle.cv_props.specs.declared.key.Key.TheVariants.{Custom, Table}
-use Rattle.cv_props.specs.declared.outcome.Outcome.{Outcome as Kept}
-use Rattle.cv_props.specs.declared.outcome.Outcome.TheVariants as kept
-use Rattle.cv_props.specs.declared.property.Property.TheVariants.{FontSize}
-use Rattle.cv_props.specs.Keys.{same_key, key_text}
-use Rattle.cv_props.specs.Valuations.{Values, MayKeep, outcome_at}
+use Rattle.cv_valuation.specs.declared.key.Key.{Key}
+use Rattle.cv_valuation.specs.declared.key.Key.TheVariants.{Custom, Table}
+use Rattle.cv_valuation.specs.declared.outcome.Outcome.{Outcome as Kept}
+use Rattle.cv_valuation.specs.declared.outcome.Outcome.TheVariants as kept
+use Rattle.cv_property.specs.declared.property.Property.TheVariants.{FontSize}
+use Rattle.cv_valuation.specs.Keys.{same_key, key_text}
+use Rattle.cv_valuation.specs.Valuations.{Values, MayKeep, outcome_at}
 use Rattle.cv_props.specs.Winners.{declaration_of}
 use Rattle.cv_props.specs.Winners as winners
 

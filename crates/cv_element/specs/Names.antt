@@ -4,7 +4,7 @@ use Rattle.std.specs.List.{list_any}
 use Rattle.cv_spec_element.specs.Pieces.{RefersTo}
 use Rattle.cv_var.specs.References.{pieces_of}
 use Rattle.cv_props.specs.declared.decls.Decl.{Decl}
-use Rattle.cv_props.specs.declared.key.Key.TheVariants.{Custom}
+use Rattle.cv_valuation.specs.declared.key.Key.TheVariants.{Custom}
 use Rattle.cv_props.specs.Winners.{Declarations, declaration_of}
 
 -- the name of this number

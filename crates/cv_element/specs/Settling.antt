@@ -10,13 +10,13 @@ use Rattle.cv_spec_element.specs.Valuation.{IsInvalid, Gives}
 use Rattle.cv_subst.specs.Values.{value_in}
 use Rattle.cv_var.specs.References.{pieces_of}
 use Rattle.cv_spec_element.specs.Pieces.{RefersTo}
-use Rattle.cv_props.specs.declared.computed.Cause.{Cause}
-use Rattle.cv_props.specs.declared.key.Key.{Key}
-use Rattle.cv_props.specs.declared.key.Key.TheVariants.{Custom}
-use Rattle.cv_props.specs.declared.outcome.Outcome.{Outcome as Kept}
-use Rattle.cv_props.specs.declared.outcome.Outcome.TheVariants.{Invalid}
-use Rattle.cv_props.specs.Valuations.{Values, outcome_at, with_outcome}
-use Rattle.cv_props.specs.Valuations as valuations
+use Rattle.cv_valuation.specs.declared.computed.Cause.{Cause}
+use Rattle.cv_valuation.specs.declared.key.Key.{Key}
+use Rattle.cv_valuation.specs.declared.key.Key.TheVariants.{Custom}
+use Rattle.cv_valuation.specs.declared.outcome.Outcome.{Outcome as Kept}
+use Rattle.cv_valuation.specs.declared.outcome.Outcome.TheVariants.{Invalid}
+use Rattle.cv_valuation.specs.Valuations.{Values, outcome_at, with_outcome}
+use Rattle.cv_valuation.specs.Valuations as valuations
 use Rattle.cv_props.specs.Winners.{Declarations, declaration_of}
 use Rattle.cv_element.specs.declared.settling.Settling.{Settling}
 use Rattle.cv_element.specs.Element.{the_element, values_of, cause_of, Faults, IsOnce}

@@ -7,7 +7,7 @@ ghost use Rattle.cv_spec_text.specs.Splits.{IsSpelt};
 ghost use Rattle.cv_component.specs.TopLevel.{trim_front, trim_end};
 ghost use Rattle.cv_subst.specs.Values.{value_in};
 ghost use Rattle.cv_var.specs.References.{pieces_of, has_var};
-ghost use Rattle.cv_props.specs.Valuations.{MayKeep};
+ghost use Rattle.cv_valuation.specs.Valuations.{MayKeep};
 ghost use Rattle.cv_element.specs.Answers.{IsAnswer, keyword_in, outcome_by};
 
 use crate::refusal::ElemErr;

@@ -4,9 +4,9 @@ ghost use Rattle.std.specs.Prelude.{◌≡◌, ◌⊎◌, ◌<◌, ◌≤◌, �
 ghost use Rattle.std.specs.List.{IsDistinct};
 ghost use Rattle.cv_spec_text.specs.Keywords.{is_custom};
 ghost use Rattle.cv_props.specs.Winners.{declaration_of};
-ghost use Rattle.cv_props.specs.declared.key.Key.TheVariants.{Custom};
-ghost use Rattle.cv_props.specs.declared.key.Key.{Key};
-ghost use Rattle.cv_props.specs.Keys.{is_custom_key};
+ghost use Rattle.cv_valuation.specs.declared.key.Key.TheVariants.{Custom};
+ghost use Rattle.cv_valuation.specs.declared.key.Key.{Key};
+ghost use Rattle.cv_valuation.specs.Keys.{is_custom_key};
 ghost use Rattle.cv_element.specs.Names.{name_at};
 
 use cv_props::{Decls, Key, properties_are_found};

@@ -4,7 +4,7 @@ use Rattle.cv_spec_text.specs.Splits.{IsSpelt}
 use Rattle.cv_component.specs.declared.items.Piece.{Piece}
 use Rattle.cv_component.specs.declared.items.Piece.TheVariants as pieces
 use Rattle.cv_props.specs.declared.decls.Decl.{Decl}
-use Rattle.cv_props.specs.declared.key.Key.{Key}
+use Rattle.cv_valuation.specs.declared.key.Key.{Key}
 use Rattle.cv_props.specs.declared.note.Why.{Why}
 use Rattle.cv_props.specs.declared.style.Refusal.{Refusal}
 use Rattle.cv_props.specs.declared.style.Refusal.TheVariants.{Ignored, Memory}

@@ -1,7 +1,7 @@
 //! What the tables keep.
 
-ghost use Rattle.cv_props.specs.TableLaws.{PropertiesAreFound};
-ghost use Rattle.cv_props.specs.ValuationLaws.{OutcomesAreByKey};
+ghost use Rattle.cv_property.specs.TableLaws.{PropertiesAreFound};
+ghost use Rattle.cv_valuation.specs.ValuationLaws.{OutcomesAreByKey};
 ghost use Rattle.cv_props.specs.WinnerLaws.{WinnersAreByKey};
 
 /// Each property has a number of its own and a name of its own, and is found by them.

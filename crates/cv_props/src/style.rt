@@ -4,8 +4,8 @@ ghost use Rattle.std.specs.Prelude.{◌≡◌, ◌++◌, ◌<◌, ◌≤◌, fal
 ghost use Rattle.cv_spec_text.specs.Splits.{IsSpelt};
 ghost use Rattle.cv_component.specs.Items.{items};
 ghost use Rattle.cv_props.specs.Declaring.{MayDeclare};
-ghost use Rattle.cv_props.specs.Keys.{key_named};
-ghost use Rattle.cv_props.specs.Table.{property_named};
+ghost use Rattle.cv_valuation.specs.Keys.{key_named};
+ghost use Rattle.cv_property.specs.Table.{property_named};
 ghost use Rattle.cv_props.specs.Kept.{DeclareCustomAlone, declared_by, declared_by_item, declare_ordinary, declares_ordinary, kept_declarations, note_on, notes_on, value_fault};
 ghost use Rattle.cv_props.specs.Reading.{IsIgnored, IsRefused, IsSpeltItem, with_item};
 ghost use Rattle.cv_props.specs.Winners.{winners};

@@ -1,6 +1,6 @@
 use Rattle.std.proofs.Common.{ℕ, ◌+◌, ◌≤◌, List, length, ◌∙◌, sym, ap, subst}
 use Rattle.std.specs.Prelude.{Contains}
-use Rattle.cv_props.specs.declared.key.Key.TheVariants.{Custom}
+use Rattle.cv_valuation.specs.declared.key.Key.TheVariants.{Custom}
 use Rattle.cv_element.proofs.Naming.{insert-here, insert-few}
 use Rattle.cv_element.proofs.names.add_name.Goals as goal
 

@@ -1,5 +1,5 @@
 use Rattle.std.proofs.Common.{arith}
-use Rattle.cv_props.specs.declared.key.Key.TheVariants.{Custom}
+use Rattle.cv_valuation.specs.declared.key.Key.TheVariants.{Custom}
 use Rattle.cv_element.proofs.Naming.{listed-step, declared-step, custom-step, declared_at, at_declared}
 use Rattle.cv_element.proofs.names.declared_names.Goals as goal
 

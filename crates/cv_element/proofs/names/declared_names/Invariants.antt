@@ -3,8 +3,8 @@ use Rattle.std.specs.Prelude.{Contains, slice_get, bytes_eq}
 use Rattle.std.specs.List.{IsDistinct}
 use Rattle.cv_spec_text.specs.Keywords.{is_custom}
 use Rattle.cv_props.specs.declared.decls.Decl.{Decl}
-use Rattle.cv_props.specs.declared.key.Key.{Key}
-use Rattle.cv_props.specs.declared.key.Key.TheVariants.{Custom}
+use Rattle.cv_valuation.specs.declared.key.Key.{Key}
+use Rattle.cv_valuation.specs.declared.key.Key.TheVariants.{Custom}
 use Rattle.cv_element.proofs.names.declared_names.Given as goal
 
 abbrev pub invariant-loop-place : goal.invariant-loop-place

@@ -1,7 +1,7 @@
 use Rattle.std.proofs.Common.{false, IfOk, subst}
 use Rattle.cv_var.specs.References.{pieces_of}
 use Rattle.cv_subst.specs.Values.{value_in}
-use Rattle.cv_props.specs.Valuations.{values_of}
+use Rattle.cv_valuation.specs.Valuations.{values_of}
 use Rattle.cv_element.specs.Answers.{IsAnswer}
 use Rattle.cv_element.proofs.Keying.{sub-agrees}
 use Rattle.cv_element.proofs.settling.answer_loaded.Goals as goal

@@ -1,5 +1,5 @@
 use Rattle.std.proofs.Common.{sym, subst}
-use Rattle.cv_props.specs.Valuations.{MayKeep}
+use Rattle.cv_valuation.specs.Valuations.{MayKeep}
 use Rattle.cv_element.specs.Element.{AreKept}
 use Rattle.cv_element.proofs.Keeping.{may_keep, kept-with}
 use Rattle.cv_element.proofs.settling.keep.Goals as goal

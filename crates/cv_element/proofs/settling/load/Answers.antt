@@ -1,6 +1,6 @@
 use Rattle.std.proofs.Common.{◌≡◌, inl, inr, arith, subst}
 use Rattle.cv_subst.specs.Values.{value_in}
-use Rattle.cv_props.specs.Valuations.{values_of}
+use Rattle.cv_valuation.specs.Valuations.{values_of}
 use Rattle.cv_element.proofs.Loading.{loaded-step, here-step, more-step, index_is, at_place, in_place}
 use Rattle.cv_element.proofs.settling.load.Goals as goal
 

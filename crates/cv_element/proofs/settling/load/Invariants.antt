@@ -1,6 +1,6 @@
 use Rattle.std.proofs.Common.{◌≡◌, ℕ, ◌<◌, ◌⊎◌, List, [], get_or}
 use Rattle.cv_subst.specs.Values.{value_in}
-use Rattle.cv_props.specs.Valuations.{values_of}
+use Rattle.cv_valuation.specs.Valuations.{values_of}
 use Rattle.cv_element.specs.Settling.{IsLoaded}
 use Rattle.cv_element.proofs.settling.load.Given as goal
 

@@ -1,5 +1,5 @@
 use Rattle.std.proofs.Common.{sym, subst}
-use Rattle.cv_props.specs.declared.outcome.Outcome.TheVariants.{Invalid}
+use Rattle.cv_valuation.specs.declared.outcome.Outcome.TheVariants.{Invalid}
 use Rattle.cv_element.specs.Element.{AreKept}
 use Rattle.cv_element.proofs.Keeping.{kept-with}
 use Rattle.cv_element.proofs.settling.refuse.Goals as goal

@@ -2,8 +2,8 @@ use Rattle.std.proofs.Common.{◌≡◌, ℕ, ◌⊎◌, false, List, Ok, sym, �
 use Rattle.cv_spec_element.specs.Pieces.{RefersTo, sub}
 use Rattle.cv_subst.specs.Values.{value_in}
 use Rattle.cv_var.specs.References.{pieces_of}
-use Rattle.cv_props.specs.declared.key.Key.TheVariants.{Custom}
-use Rattle.cv_props.specs.Valuations.{values_of, outcome_at, with_outcome}
+use Rattle.cv_valuation.specs.declared.key.Key.TheVariants.{Custom}
+use Rattle.cv_valuation.specs.Valuations.{values_of, outcome_at, with_outcome}
 use Rattle.cv_element.specs.Answers.{IsAnswer, outcome_by}
 use Rattle.cv_element.specs.Settling.{Runs, IsLoaded}
 use Rattle.cv_element.proofs.Keeping.{answer_plain}

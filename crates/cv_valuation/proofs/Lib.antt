@@ -1,0 +1,3 @@
+pub mod KeyOrder
+mod Outcomes
+mod Tries

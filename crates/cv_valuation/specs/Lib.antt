@@ -1,0 +1,6 @@
+pub mod Keys
+pub mod KeyLaws
+pub mod Kept
+pub mod Valuations
+pub mod Tries
+pub mod ValuationLaws
