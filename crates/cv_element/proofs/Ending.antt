@@ -17,7 +17,7 @@ use Rattle.cv_valuation.specs.declared.key.Key.{Key}
 use Rattle.cv_valuation.specs.declared.key.Key.TheVariants.{Custom, Table}
 use Rattle.cv_property.specs.declared.property.Property.TheVariants.{FontSize}
 use Rattle.cv_valuation.specs.Keys.{same_key}
-use Rattle.cv_property.specs.TableLaws.{PropertiesAreFound}
+use Rattle.cv_valuation.specs.TableLaws.{PropertiesAreFound}
 use Rattle.cv_valuation.specs.Valuations.{Values, outcome_of, outcome_at}
 use Rattle.cv_valuation.specs.ValuationLaws.{OutcomesAreByKey}
 use Rattle.cv_props.specs.Winners.{Declarations, declaration_of}

@@ -16,7 +16,7 @@ use Rattle.cv_valuation.specs.declared.key.Key.{Key}
 use Rattle.cv_valuation.specs.declared.key.Key.TheVariants.{Custom, Table}
 use Rattle.cv_valuation.specs.declared.outcome.Outcome.{Outcome as Kept}
 use Rattle.cv_valuation.specs.declared.outcome.Outcome.TheVariants as kept
-use Rattle.cv_property.specs.TableLaws.{PropertiesAreFound}
+use Rattle.cv_valuation.specs.TableLaws.{PropertiesAreFound}
 use Rattle.cv_valuation.specs.Valuations.{Values, outcome_at, with_outcome}
 use Rattle.cv_valuation.specs.ValuationLaws.{OutcomesAreByKey}
 use Rattle.cv_props.specs.Winners.{Declarations}

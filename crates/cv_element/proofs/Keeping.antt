@@ -15,7 +15,7 @@ use Rattle.cv_valuation.specs.Keys.{is_custom_key}
 use Rattle.cv_valuation.specs.Valuations.{Values, trim, is_keyword, IsKept, MayKeep, outcome_of, outcome_at, with_outcome}
 use Rattle.cv_valuation.specs.Valuations as valuations
 use Rattle.cv_valuation.specs.ValuationLaws.{OutcomesAreByKey}
-use Rattle.cv_property.specs.TableLaws.{PropertiesAreFound}
+use Rattle.cv_valuation.specs.TableLaws.{PropertiesAreFound}
 use Rattle.cv_valuation.specs.declared.key.Key.TheVariants.{Custom}
 use Rattle.cv_spec_element.specs.Pieces.{Pieces, finish, token, reference, reference_or, value_or, joined, sub}
 use Rattle.cv_element.specs.Answers.{word_of, keyword_in, outcome_by}

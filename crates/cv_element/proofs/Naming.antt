@@ -15,7 +15,7 @@ use Rattle.cv_valuation.specs.declared.key.Key.{Key}
 use Rattle.cv_valuation.specs.declared.key.Key.TheVariants.{Custom}
 use Rattle.cv_spec_text.specs.Keywords.{is_custom}
 use Rattle.cv_valuation.specs.Keys.{same_key, is_custom_key}
-use Rattle.cv_property.specs.TableLaws.{PropertiesAreFound}
+use Rattle.cv_valuation.specs.TableLaws.{PropertiesAreFound}
 use Rattle.cv_props.specs.Winners.{Declarations, declaration_of}
 use Rattle.cv_element.proofs.SameKeys.{keys_same, same_key_same}
 

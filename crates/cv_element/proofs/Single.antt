@@ -11,7 +11,7 @@ use Rattle.cv_valuation.specs.declared.key.Key.{Key}
 use Rattle.cv_valuation.specs.declared.outcome.Outcome.{Outcome as Kept}
 use Rattle.cv_valuation.specs.declared.outcome.Outcome.TheVariants as kept
 use Rattle.cv_valuation.specs.Valuations.{Values, outcome_at}
-use Rattle.cv_property.specs.TableLaws.{PropertiesAreFound}
+use Rattle.cv_valuation.specs.TableLaws.{PropertiesAreFound}
 use Rattle.cv_valuation.specs.ValuationLaws.{OutcomesAreByKey}
 use Rattle.cv_props.specs.Winners.{Declarations}
 use Rattle.cv_element.specs.Element.{the_element, as_read, values_of, cause_of, IsComputed}

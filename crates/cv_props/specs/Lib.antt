@@ -1,10 +1,3 @@
-pub mod Table
-pub mod Keys
-pub mod KeyLaws
-pub mod TableLaws
-pub mod Valuations
-pub mod Tries
-pub mod ValuationLaws
 pub mod Winners
 pub mod WinnerLaws
 pub mod Declaring

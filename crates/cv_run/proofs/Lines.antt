@@ -8,7 +8,7 @@ use Rattle.cv_valuation.specs.declared.computed.Cause.{Cause}
 use Rattle.cv_valuation.specs.declared.computed.Computed.{Computed}
 use Rattle.cv_valuation.specs.declared.key.Key.{Key}
 use Rattle.cv_valuation.specs.Keys.{same_key}
-use Rattle.cv_property.specs.TableLaws.{PropertiesAreFound}
+use Rattle.cv_valuation.specs.TableLaws.{PropertiesAreFound}
 use Rattle.cv_report.specs.Report.{cause_of, element_text, elements_text, value_lines}
 use Rattle.cv_element.specs.Element.{Faults, IsOnce}
 use Rattle.cv_element.specs.Single.{TellsTheSame}

@@ -76,3 +76,14 @@ module _ {K T V U M : Type 0} (e : Element K T V U M) (laws : IsLawful e) where
   pub settled_ranges : (values : K → Outcome T V) (settled : (p : K) → IsSettled e values p) (p : K) → IsOutOfRange e (settled p).earlier p ↔ IsOutOfRange e values p
   settled_ranges values settled p =
       out_of_range_kept e laws values (settled p).earlier p (λ q here. (sym ((settled p).kept q here), settled_sound values settled q))
+
+  -- two valuations agree where a property reads, so that they have the same causes and ranges
+  agrees : (values others : K → Outcome T V) → IsValuation e values → IsValuation e others → (q : K) → (others q ≡ values q) × IsSound e laws q (others q)
+  agrees values others first second q =
+      (one_valuation.only others second q ∙ sym (one_valuation.only values first q), sound e.declarations.names (Reads e) next (IsSound e laws) (equations_read e laws) others (valuation_next others second) q)
+
+  pub same_causes : (values others : K → Outcome T V) → IsValuation e values → IsValuation e others → (p : K) (cause : Cause K) → IsInvalid e values p cause ↔ IsInvalid e others p cause
+  same_causes values others first second p cause = invalid_kept e laws others values p (λ q here. agrees values others first second q) cause
+
+  pub same_ranges : (values others : K → Outcome T V) → IsValuation e values → IsValuation e others → (p : K) → IsOutOfRange e values p ↔ IsOutOfRange e others p
+  same_ranges values others first second p = out_of_range_kept e laws others values p (λ q here. agrees values others first second q)

@@ -7,12 +7,15 @@ ghost use Rattle.cv_spec_element.specs.Words.{HasUnit};
 ghost use Rattle.cv_spec_element.specs.Element.{Outcome, Element};
 ghost use Rattle.cv_spec_element.specs.Dependencies.{Refers, Holds, Edge, DependsOnItself};
 ghost use Rattle.cv_spec_element.specs.Valuation.{Cause, SubIs, IsInvalid, IsOutOfRange, invalid_value, Gives, IsValuation, HasOneValuation, IsSettled, HasOneCause};
-ghost use Rattle.cv_spec_element.specs.Premises.{IsLawful};
+ghost use Rattle.cv_spec_element.specs.Premises.{IsNamed, IsLawful};
 ghost use Rattle.cv_spec_element.specs.Numbering.{NumberEdge, IsNumbering};
 
-/// Exactly one valuation solves the equations of an element, and the equations give each property one value.
+/// Exactly one valuation solves the equations of an element, and the equations give each property one value. Two
+/// valuations, which agree at every property, have the same causes, and the same properties are out of range in them.
 pub fn has_one_valuation<K, T, V, U, M>()
     ensures exactly_one { (e : Element K T V U M) → IsLawful e → HasOneValuation e }
+    ensures same_causes { (e : Element K T V U M) → IsLawful e → (values others : K → Outcome T V) → IsValuation e values → IsValuation e others → (p : K) (cause : Cause K) → IsInvalid e values p cause ↔ IsInvalid e others p cause }
+    ensures same_ranges { (e : Element K T V U M) → IsLawful e → (values others : K → Outcome T V) → IsValuation e values → IsValuation e others → (p : K) → IsOutOfRange e values p ↔ IsOutOfRange e others p }
     ensures one_value { (e : Element K T V U M) → IsLawful e → (values : K → Outcome T V) (p : K) (one other : Outcome T V) → Gives e values p one → Gives e values p other → other ≡ one }
 {}
 
@@ -46,8 +49,8 @@ pub fn names_are_references<K, T, V, U, M>()
     ensures fallbacks { (n q : K) (fallback rest : Pieces K T) → RefersTo fallback q → RefersTo (reference_or n fallback rest) q }
 {}
 
-/// A number is on a cycle exactly where its name depends on itself, and each name that does has a number.
+/// A number is on a cycle exactly where its property depends on itself, and each property that does has a number.
 pub fn numbers_keep_cycles<K, T, V, U, M>()
-    ensures same { (e : Element K T V U M) (name : ℕ → K) (rows : List (List ℕ)) → IsNumbering e name rows → (i : ℕ) → i < length rows → IsCyclic (NumberEdge rows) i ↔ DependsOnItself e (name i) }
+    ensures same { (e : Element K T V U M) (name : ℕ → K) (rows : List (List ℕ)) → IsNamed e → IsNumbering e name rows → (i : ℕ) → i < length rows → IsCyclic (NumberEdge rows) i ↔ DependsOnItself e (name i) }
     ensures numbered { (e : Element K T V U M) (name : ℕ → K) (rows : List (List ℕ)) → IsNumbering e name rows → (p : K) → DependsOnItself e p → (i : ℕ) × (i < length rows) × (name i ≡ p) }
 {}

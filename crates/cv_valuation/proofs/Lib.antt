@@ -1,3 +1,4 @@
+mod TableTest
 pub mod KeyOrder
 mod Outcomes
 mod Tries

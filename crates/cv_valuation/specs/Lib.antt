@@ -1,5 +1,6 @@
 pub mod Keys
 pub mod KeyLaws
+pub mod TableLaws
 pub mod Kept
 pub mod Valuations
 pub mod Tries
