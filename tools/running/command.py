@@ -1,0 +1,95 @@
+"""./run as a whole: reads the words, takes the proved program or a first look, and says what more there is to say."""
+import subprocess
+import sys
+
+from running import program, trying
+from running.hints import hint
+from running.proving import prove, tell
+from running.words import BadWords, is_page, read_words
+
+HELP = """\
+./run [OPTIONS] [FILE]      computes a document and writes its report; without FILE, or as -, from standard input
+./run [OPTIONS] PAGE.html   computes a web page (python3-html5lib, -cssselect2, -tinycss2; tools/page says more)
+./run --prove [FILE]        proves and builds the program first, with a line for each crate
+
+  --limit N         the most tokens of a value after substitution, 1 to 32768 (16384)
+  --size N          1 to 4096, for jobs that use it
+  --names           names the elements of a page as people do: #3 div.card > p
+  --viewport WxH    the viewport of a page (1280x720)
+  --help            this text
+
+The document is a JSON object (docs/DOCUMENT.md, docs/document.schema.json):
+  { "viewport": { "width": 1280, "height": 720 },                 if you want another one
+    "sheet": "@property --gap { .. }",                            a style sheet, for its @property rules
+    "elements": [ { "parent": null, "style": "--gap: 2px" },      in tree order: first the root,
+                  { "parent": 0, "style": "--pad: var(--gap)" } ],    then each after its parent
+    "show": ["--pad"] }                                           the names to show, else all that are declared
+
+exit  line on standard error            when
+   0  none                              the whole report was written
+   1  run: ..                           no program could be had
+   2  cssvars: bad usage, or run: ..    the words aren't as above
+   3  cssvars: read fault, or run: ..   the document can't be read
+   4  cssvars: too large: PART          more than 16 MiB, 16384 elements or 2048 names
+   5  cssvars: malformed: WHAT          no JSON, or a member of a wrong kind; a second line says where
+   6  cssvars: out of range: ..         a number of a value is past 64 bits
+   7  cssvars: write fault              the report couldn't be written
+   8  cssvars: no memory                memory ran out
+   9  cssvars: not built                the document holds what isn't built yet; a second line says what
+"""
+MOST_BYTES = 16_777_216
+NO_PROGRAM, BAD_WORDS, NO_INPUT = 1, 2, 3
+
+
+def main(arguments):
+    """Does what the words ask for, and gives the exit status."""
+    try:
+        words = read_words(arguments)
+    except BadWords as error:
+        tell(f"{error} (./run --help)")
+        return BAD_WORDS
+    if words.help:
+        sys.stdout.write(HELP)
+        return 0
+    if words.prove and not prove():
+        return NO_PROGRAM
+    if words.prove and words.file is None:
+        return 0
+    try:
+        data = read_document(words)
+    except OSError as error:
+        tell(f"{words.file or 'standard input'} can't be read: {error.strerror}")
+        return NO_INPUT
+    return compute(words, data)
+
+
+def read_document(words):
+    """The bytes of the document, one more than the program takes at most."""
+    if is_page(words.file):
+        raise NotImplementedError("pages")
+    if words.file in (None, "-"):
+        return sys.stdin.buffer.read(MOST_BYTES + 1)
+    with open(words.file, "rb") as file:
+        return file.read(MOST_BYTES + 1)
+
+
+def compute(words, data):
+    """Computes a document, and says more where there is more to say; gives the exit status."""
+    if program.is_current():
+        status, line = run_proved(words, data)
+    else:
+        trying.warn(data)
+        answer = trying.look(words, data)
+        if answer is None:
+            return NO_PROGRAM
+        status, line = answer
+    sys.stderr.write(line)
+    hint(status, line, data)
+    return status
+
+
+def run_proved(words, data):
+    """Runs the proved program; its report goes straight to standard output."""
+    ended = subprocess.run([program.PROGRAM, words.job, *words.options], input=data, stderr=subprocess.PIPE)
+    status = ended.returncode if ended.returncode >= 0 else 128 - ended.returncode
+    return status, ended.stderr.decode("utf-8", "replace")
