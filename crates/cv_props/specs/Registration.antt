@@ -97,6 +97,9 @@ viewport width height = record { em = ratio (pos 16) 1; rem = ratio (pos 16) 1; 
 abbrev pub is_universal_value : List Token → Bool
 is_universal_value value = is_value value && not (has_var value) && not (is_keyword (trim value))
 
+abbrev pub universal_initial : List Token → Option Outcome
+universal_initial value = if is_universal_value value then Some (Tokens value) else None
+
 abbrev pub fitting : Matched Typed → Option Outcome
 fitting (Fit value) = Some (Value value)
 fitting Out = None
@@ -109,7 +112,7 @@ typed_initial x s value = if has_var value || not (holds_no_font_unit true value
 -- the initial value, where the written one is one; the universal syntax needs none
 abbrev pub initial_value : Context → Syntax → Option (List Token) → Option Outcome
 initial_value x Any None = Some Invalid
-initial_value x Any (Some value) = if is_universal_value value then Some (Tokens value) else None
+initial_value x Any (Some value) = universal_initial value
 initial_value x (Of components) None = None
 initial_value x (Of components) (Some value) = typed_initial x (Of components) value
 

@@ -3,6 +3,7 @@
 use Rattle.std.specs.Prelude.{ℕ, if◌then◌else◌, List, [], ◌∷◌, bytes_eq, map, Option, Some, None, Result, Ok, Err}
 use Rattle.std.specs.List.{enumerate_from, filter_map, flat_map}
 use Rattle.std.specs.Map.{keys_of}
+use Rattle.indexmap.specs.IndexMap.{insert_entry}
 use Rattle.cv_component.specs.declared.sheet.Rule.{Rule}
 use Rattle.cv_var.specs.Names.{firsts}
 use Rattle.cv_calc.specs.declared.context.Context.{Context}
@@ -35,3 +36,8 @@ ignored number (Err why) = record { place = places.Rule number; why = why } ∷ 
 -- the notes on the rules that are ignored, in order; rules are numbered from 0, ignored ones too
 abbrev pub notes_on_rules : Context → List Rule → List Note
 notes_on_rules x all = flat_map (λ (number, rule). ignored number (registration x rule)) (enumerate_from 0 all)
+
+-- what is registered once one more rule is read: a name that was there keeps its place
+abbrev pub with_registration : Registered → Result (List ℕ × Entry) Why → Registered
+with_registration all (Ok (name, entry)) = insert_entry bytes_eq all name entry
+with_registration all (Err why) = all

@@ -9,7 +9,7 @@ ghost use Rattle.cv_valuation.specs.Keys.{same_key};
 ghost use Rattle.cv_props.specs.Winners.{declaration_of};
 ghost use Rattle.cv_props.specs.Declaring.{IsDeclaredEntry, MayDeclare, is_important, with_declaration};
 
-use crate::key::Key;
+use cv_valuation::Key;
 use cv_var::Declared;
 use indexmap::IndexMap;
 use std::alloc::{AllocError, Global};

@@ -1,51 +1,54 @@
-//! The descriptors of an `@property` rule.
+//! The descriptors of an `@property` rule (Properties and Values API 1, "The @property Rule").
 
-ghost use Rattle.std.specs.Prelude.{◌≡◌, codes, IfOk, option_map};
-ghost use Rattle.cv_props.specs.Registration.{descriptor, inherits_in, initial_in, last_said, said_inherits, said_syntax, syntax_in, truth};
+ghost use Rattle.std.specs.Prelude.{◌≡◌, map, codes, IfOk};
+ghost use Rattle.std.specs.Option.{option_copied};
+ghost use Rattle.cv_component.specs.Shared.{piece_of};
+ghost use Rattle.cv_syntax.specs.Strings.{syntax};
+ghost use Rattle.cv_props.specs.Registration.{descriptor, inherits_in, initial_in, last_said, right, said_inherits, said_syntax, syntax_in, truth};
 
-use cv_component::Piece;
-use cv_spec_text::{Name, Token};
+use cv_component::SharedPiece;
+use cv_spec_text::{Name, Run, Token};
 use cv_syntax::{Syntax, SyntaxErr, parse_syntax};
 use std::alloc::{AllocError, Global};
 
 // The value of a declaration of `syntax` that isn't important.
-fn syntax_value(piece: &Piece) -> Option<&[Token]>
-    ensures { option_map (λ value. value.now) result ≡ descriptor (codes "syntax") piece.now }
+fn syntax_value(piece: &SharedPiece) -> Option<&Run>
+    ensures { option_copied result ≡ descriptor (codes "syntax") (piece_of piece.now) }
 {
     match piece {
-        Piece::Decl {
+        SharedPiece::Decl {
             name,
             value,
             important: false,
-        } if name.is_word("syntax") => Some(value.as_slice()),
+        } if name.is_word("syntax") => Some(value),
         _ => None,
     }
 }
 
 // The value of a declaration of `inherits` that isn't important.
-fn inherits_value(piece: &Piece) -> Option<&[Token]>
-    ensures { option_map (λ value. value.now) result ≡ descriptor (codes "inherits") piece.now }
+fn inherits_value(piece: &SharedPiece) -> Option<&Run>
+    ensures { option_copied result ≡ descriptor (codes "inherits") (piece_of piece.now) }
 {
     match piece {
-        Piece::Decl {
+        SharedPiece::Decl {
             name,
             value,
             important: false,
-        } if name.is_word("inherits") => Some(value.as_slice()),
+        } if name.is_word("inherits") => Some(value),
         _ => None,
     }
 }
 
 // The value of a declaration of `initial-value` that isn't important.
-fn initial_value(piece: &Piece) -> Option<&[Token]>
-    ensures { option_map (λ value. value.now) result ≡ initial_in piece.now }
+fn initial_in(piece: &SharedPiece) -> Option<&Run>
+    ensures { option_copied result ≡ initial_in (piece_of piece.now) }
 {
     match piece {
-        Piece::Decl {
+        SharedPiece::Decl {
             name,
             value,
             important: false,
-        } if name.is_word("initial-value") => Some(value.as_slice()),
+        } if name.is_word("initial-value") => Some(value),
         _ => None,
     }
 }
@@ -91,27 +94,30 @@ fn said_inherits(value: &[Token]) -> Option<bool>
     }
 }
 
-fn syntax_in(alloc: Global, piece: &Piece) -> Result<Option<Syntax>, AllocError>
-    ensures { IfOk result (λ found. found ≡ syntax_in piece.now) }
+fn syntax_in(alloc: Global, piece: &SharedPiece) -> Result<Option<Syntax>, AllocError>
+    ensures { IfOk result (λ found. found ≡ syntax_in (piece_of piece.now)) }
 {
     match syntax_value(piece) {
-        Some(value) => said_syntax(alloc, value),
+        Some(value) => said_syntax(alloc, value.tokens()),
         None => Ok(None),
     }
 }
 
-fn inherits_in(piece: &Piece) -> Option<bool>
-    ensures { result ≡ inherits_in piece.now }
+fn inherits_in(piece: &SharedPiece) -> Option<bool>
+    ensures { result ≡ inherits_in (piece_of piece.now) }
 {
     match inherits_value(piece) {
-        Some(value) => said_inherits(value),
+        Some(value) => said_inherits(value.tokens()),
         None => None,
     }
 }
 
 /// The syntax that the last descriptor says that is a syntax string.
-pub(crate) fn last_syntax(alloc: Global, block: &[Piece]) -> Result<Option<Syntax>, AllocError>
-    ensures { IfOk result (λ found. found ≡ last_said syntax_in block.now) }
+pub(crate) fn last_syntax(
+    alloc: Global,
+    block: &[SharedPiece],
+) -> Result<Option<Syntax>, AllocError>
+    ensures { IfOk result (λ found. found ≡ last_said syntax_in (map piece_of block.now)) }
 {
     let mut last = None;
     for piece in block {
@@ -123,8 +129,8 @@ pub(crate) fn last_syntax(alloc: Global, block: &[Piece]) -> Result<Option<Synta
 }
 
 /// Whether the property inherits, as the last descriptor says that is `true` or `false`.
-pub(crate) fn last_inherits(block: &[Piece]) -> Option<bool>
-    ensures { result ≡ last_said inherits_in block.now }
+pub(crate) fn last_inherits(block: &[SharedPiece]) -> Option<bool>
+    ensures { result ≡ last_said inherits_in (map piece_of block.now) }
 {
     let mut last = None;
     for piece in block {
@@ -136,12 +142,12 @@ pub(crate) fn last_inherits(block: &[Piece]) -> Option<bool>
 }
 
 /// The last initial value that is written.
-pub(crate) fn last_initial(block: &[Piece]) -> Option<&[Token]>
-    ensures { option_map (λ value. value.now) result ≡ last_said initial_in block.now }
+pub(crate) fn last_initial(block: &[SharedPiece]) -> Option<&Run>
+    ensures { option_copied result ≡ last_said initial_in (map piece_of block.now) }
 {
     let mut last = None;
     for piece in block {
-        if let Some(value) = initial_value(piece) {
+        if let Some(value) = initial_in(piece) {
             last = Some(value);
         }
     }

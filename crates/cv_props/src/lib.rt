@@ -2,17 +2,25 @@
 #![tactic(auto)]
 
 mod decls;
+mod descriptors;
+mod entry;
+mod font_units;
+mod initial;
 mod laws;
 mod note;
+mod refusal;
+mod registration;
 mod registry;
 mod style;
 
 pub use cv_valuation::{
-    Cause, Computed, Key, Outcome, Property, Valuation, key_text, outcome_text, outcomes_are_by_key,
-    properties_are_found,
+    Cause, Computed, Key, Outcome, Property, Valuation, key_text, outcome_text,
+    outcomes_are_by_key, properties_are_found,
 };
 pub use decls::{Decl, Decls};
+pub use entry::Entry;
+pub use font_units::holds_font_unit;
 pub use laws::winners_are_by_key;
 pub use note::{Note, NotePlace, Why};
-pub use registry::{Registry, registers};
+pub use registry::Registry;
 pub use style::declares_ordinary;

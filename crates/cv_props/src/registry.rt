@@ -1,15 +1,16 @@
 //! The custom properties that a sheet registers.
 
-ghost use Rattle.std.specs.Prelude.{◌≡◌, ◌++◌, ◌<◌, ℕ, List, [], length, slice_get, Some, All, IfOk, IfSome, OnOk};
+ghost use Rattle.std.specs.Prelude.{◌≡◌, ◌++◌, ◌<◌, ℕ, List, length, slice_get, bytes_eq, Some, All, IfOk, IfSome, OnOk};
 ghost use Rattle.std.specs.List.{IsDistinct};
 ghost use Rattle.std.specs.Map.{keys_of};
 ghost use Rattle.std.specs.Option.{option_copied};
 ghost use Rattle.indexmap.specs.IndexMap.{insert_entry};
 ghost use Rattle.cv_spec_text.specs.Splits.{IsSpelt};
 ghost use Rattle.cv_component.specs.Rules.{rules};
-ghost use Rattle.cv_props.specs.Registered.{AreEntries, IsEntry, entry_of};
+ghost use Rattle.cv_props.specs.Reading.{IsSpeltRule};
+ghost use Rattle.cv_props.specs.Registered.{AreEntries, IsEntry, IsRegistered, entry_of};
 ghost use Rattle.cv_props.specs.Registration.{registration, viewport};
-ghost use Rattle.cv_props.specs.Sheets.{ignored, notes_on_rules, registered, registered_names};
+ghost use Rattle.cv_props.specs.Sheets.{ignored, notes_on_rules, registered, registered_names, with_registration};
 
 use crate::entry::Entry;
 use crate::note::{Note, NotePlace};
@@ -29,13 +30,14 @@ pub struct Registry {
 }
 
 impl Model for Registry {
-    ghost use Rattle.cv_props.specs.Registered.{AreEntries, Registered};
+    ghost use Rattle.std.specs.Prelude.{All};
+    ghost use Rattle.cv_props.specs.Registered.{IsRegistered, Registered};
 
     ghost Value = { Registered };
 
     ghost view = { λ registry. registry.entries.entries };
 
-    ghost invariant = { λ registry. AreEntries registry.entries.entries };
+    ghost invariant = { λ registry. All IsRegistered registry.entries.entries };
 }
 
 impl Registry {
@@ -90,5 +92,67 @@ impl Registry {
         Ok(Registry {
             entries: copied(&self.entries)?,
         })
+    }
+}
+
+fn copied(entries: &IndexMap<Name, Entry>) -> Result<IndexMap<Name, Entry>, AllocError>
+    ensures { IfOk result (λ all. all.entries ≡ entries.now.entries) }
+{
+    let mut all = IndexMap::new(*entries.allocator());
+    for (name, entry) in entries.iter() {
+        add_copy(&mut all, name, entry)?;
+    }
+    Ok(all)
+}
+
+fn add_copy(all: &mut IndexMap<Name, Entry>, name: &Name, entry: &Entry) -> Result<(), AllocError>
+    ensures { OnOk result (all.new.entries ≡ insert_entry bytes_eq all.old.entries name.now entry.now) }
+{
+    let alloc = *all.allocator();
+    all.insert(name.copy()?, entry.copy(alloc)?)?;
+    Ok(())
+}
+
+// What the rules register, and a note on each that is ignored.
+fn of_rules(alloc: Global, x: &Context, all: &[Rule]) -> Result<(Registry, Vec<Note>), AllocError>
+    requires spelt { All IsSpeltRule all.now }
+    requires few { length all.now < 4294967288 }
+    ensures entries { IfOk result (λ sheet. (name : List ℕ) → entry_of sheet.0 name ≡ registered x.now all.now name) }
+    ensures order { IfOk result (λ sheet. keys_of sheet.0 ≡ registered_names x.now all.now) }
+    ensures notes { IfOk result (λ sheet. sheet.1.items ≡ notes_on_rules x.now all.now) }
+{
+    let mut entries = IndexMap::new(alloc);
+    let mut notes = Vec::new(alloc);
+    for (number, rule) in all.iter().enumerate() {
+        add_rule(alloc, x, number as u32, rule, &mut entries, &mut notes)?;
+    }
+    Ok((Registry { entries }, notes))
+}
+
+// Keeps what the rule registers, or notes why it is ignored.
+fn add_rule(
+    alloc: Global,
+    x: &Context,
+    number: u32,
+    rule: &Rule,
+    entries: &mut IndexMap<Name, Entry>,
+    notes: &mut Vec<Note>,
+) -> Result<(), AllocError>
+    requires { IsSpeltRule rule.now }
+    ensures entries { OnOk result (entries.new.entries ≡ with_registration entries.old.entries (registration x.now rule.now)) }
+    ensures kept { All IsRegistered entries.old.entries → OnOk result (All IsRegistered entries.new.entries) }
+    ensures notes { OnOk result (notes.new.items ≡ notes.old.items ++ ignored number (registration x.now rule.now)) }
+{
+    match read_rule(alloc, x, rule) {
+        Ok((name, entry)) => {
+            entries.insert(name, entry)?;
+            Ok(())
+        }
+        Err(Refusal::Ignored(why)) => {
+            let place = NotePlace::Rule(number);
+            notes.push(Note { place, why })?;
+            Ok(())
+        }
+        Err(Refusal::Memory) => Err(AllocError),
     }
 }
