@@ -32,7 +32,7 @@ pub fn parts_in(alloc: Global, tokens: &[Token]) -> Result<Option<RcSlice<Place>
 }
 
 /// Whether there is a `var()`, at any depth.
-fn has_var(tokens: &[Token]) -> bool
+pub fn has_var(tokens: &[Token]) -> bool
     ensures { result ≡ has_var tokens.now }
 {
     let mut rest = tokens;
