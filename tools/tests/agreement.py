@@ -66,6 +66,7 @@ class Case:
     ignored: set  # pairs of an element and a name of which a declaration was ignored
     known: dict  # pairs of an element and a name that differ for a known reason
     authored: set  # the names that the author's sheets declare on the element
+    dropped: list  # the names whose registration was dropped, since the program doesn't build any yet
 
     def here(self):
         """What the browser computes on the element."""
@@ -123,7 +124,7 @@ def compare(browser, path, width=1280, height=720):
     for index, element in enumerate(page.document["elements"]):
         authored = authored_names(element)
         for name in names:
-            case = Case(values[index, name], computed[index].values[name], name, index, element["parent"], computed, page.untold, ignored, known, authored)
+            case = Case(values[index, name], computed[index].values[name], name, index, element["parent"], computed, page.untold, ignored, known, authored, page.dropped_names)
             note(found, case, element["label"])
     return found
 

@@ -71,7 +71,13 @@ def monospaced(case):
     return case.name == "font-size" and MONOSPACE in case.here().facts["font-family"]
 
 
+def unregistered(case):
+    """The name is registered on the page, and the program registers none yet."""
+    return case.name in case.dropped
+
+
 KNOWN = (
+    ("the program doesn't build @property yet, so the name isn't registered", unregistered),
     ("a shorthand with var() isn't expanded by tools/page, so what it sets isn't known here", untold),
     ("the display is none of the seven keywords of the program's grammar", other_display),
     ("a browser makes the display of roots, floats, and items of flex and grid boxes one of a block; the program computes no boxes", blockified),
