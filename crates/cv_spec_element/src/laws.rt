@@ -5,7 +5,7 @@ ghost use Rattle.cv_spec_element.specs.Pieces.{Pieces, reference_or, RefersTo};
 ghost use Rattle.cv_spec_element.specs.Walks.{IsCyclic};
 ghost use Rattle.cv_spec_element.specs.Words.{HasUnit};
 ghost use Rattle.cv_spec_element.specs.Element.{Outcome, Element};
-ghost use Rattle.cv_spec_element.specs.Dependencies.{Refers, Holds, Edge, DependsOnItself};
+ghost use Rattle.cv_spec_element.specs.Dependencies.{Refers, Holds, Edge, DependsOnItself, Reads};
 ghost use Rattle.cv_spec_element.specs.Valuation.{Cause, SubIs, IsInvalid, IsOutOfRange, invalid_value, Gives, IsValuation, HasOneValuation, IsSettled, HasOneCause, Uses, IsUsed, IsRefused, IsRanged};
 ghost use Rattle.cv_spec_element.specs.Premises.{IsNamed, IsLawful};
 ghost use Rattle.cv_spec_element.specs.Numbering.{NumberEdge, IsNumbering};
@@ -27,6 +27,13 @@ pub fn settled_values_solve<K, T, V, U, M>()
     ensures solves { (e : Element K T V U M) → IsLawful e → (values : K → Outcome T V) → ((p : K) → IsSettled e values p) → IsValuation e values }
     ensures causes { (e : Element K T V U M) → IsLawful e → (values : K → Outcome T V) (settled : (p : K) → IsSettled e values p) (p : K) (cause : Cause K) → IsInvalid e (settled p).earlier p cause ↔ IsInvalid e values p cause }
     ensures ranges { (e : Element K T V U M) → IsLawful e → (values : K → Outcome T V) (settled : (p : K) → IsSettled e values p) (p : K) → IsOutOfRange e (settled p).earlier p ↔ IsOutOfRange e values p }
+{}
+
+/// In a valuation a property is invalid with the causes that it had, and out of range if it was, where the values that it reads were the
+/// same.
+pub fn causes_are_kept<K, T, V, U, M>()
+    ensures causes { (e : Element K T V U M) → IsLawful e → (values : K → Outcome T V) → IsValuation e values → (earlier : K → Outcome T V) (p : K) → ((q : K) → Reads e p q → earlier q ≡ values q) → (cause : Cause K) → IsInvalid e earlier p cause ↔ IsInvalid e values p cause }
+    ensures ranges { (e : Element K T V U M) → IsLawful e → (values : K → Outcome T V) → IsValuation e values → (earlier : K → Outcome T V) (p : K) → ((q : K) → Reads e p q → earlier q ≡ values q) → IsOutOfRange e earlier p ↔ IsOutOfRange e values p }
 {}
 
 /// A property that is invalid at computed-value time is declared and has exactly one cause; in a valuation it has

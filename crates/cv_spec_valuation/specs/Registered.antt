@@ -12,7 +12,7 @@ use Rattle.cv_valuation.specs.declared.key.Key.{Key}
 use Rattle.cv_valuation.specs.declared.key.Key.TheVariants.{Custom, Table}
 use Rattle.cv_valuation.specs.declared.outcome.Outcome.{Outcome as Kept}
 use Rattle.cv_valuation.specs.declared.outcome.Outcome.TheVariants as kept
-use Rattle.cv_props.specs.declared.registry.Entry.{Entry}
+use Rattle.cv_props.specs.declared.entry.Entry.{Entry}
 use Rattle.cv_props.specs.Registered.{Registered, entry_of}
 
 -- the outcome as the equations read it
