@@ -14,7 +14,8 @@ ghost use Rattle.cv_props.specs.Sheets.{ignored, notes_on_rules, registered, reg
 
 use crate::entry::Entry;
 use crate::note::{Note, NotePlace};
-use crate::registration::{Refusal, read_rule, viewport};
+use crate::refusal::Refusal;
+use crate::registration::{read_rule, viewport};
 use cv_calc::Context;
 use cv_component::{Rule, rules};
 use cv_spec_text::{Name, Token};
