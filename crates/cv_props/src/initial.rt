@@ -19,7 +19,8 @@ use cv_value_laws::values_may_be_kept;
 use cv_var::{has_var, is_value};
 use std::alloc::{AllocError, Global};
 
-fn is_keyword(tokens: &[Token]) -> bool
+// Whether the list is one CSS-wide keyword.
+pub(crate) fn is_keyword(tokens: &[Token]) -> bool
     ensures { result ≡ is_keyword tokens.now }
 {
     match tokens {
@@ -77,7 +78,7 @@ pub(crate) fn initial_value(
     syntax: &Syntax,
     written: Option<&Run>,
 ) -> Result<Option<Outcome>, AllocError>
-    ensures value { IfOk result (λ found. found ≡ initial_value x.now syntax.now (option_copied written)) }
+    ensures value { IfOk result (λ found. found ≡ initial_value x.now syntax.now (option_copied written.entry)) }
     ensures kept { has_no_keyword syntax.now ≡ true → IfOk result (λ found. IfSome found (IsInitial syntax.now)) }
 {
     match (syntax, written) {

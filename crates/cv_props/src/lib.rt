@@ -21,4 +21,3 @@ pub use entry::Entry;
 pub use laws::winners_are_by_key;
 pub use note::{Note, NotePlace, Why};
 pub use registry::Registry;
-pub use style::declares_ordinary;

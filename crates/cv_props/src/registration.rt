@@ -1,6 +1,6 @@
 //! What an `@property` rule registers (Properties and Values API 1, "The @property Rule").
 
-ghost use Rattle.std.specs.Prelude.{◌≡◌, ◌×◌, ℕ, List, true, map, All, Ok, Some, IfOk, IfErr, IfSome};
+ghost use Rattle.std.specs.Prelude.{◌≡◌, true, map, All, Ok, Some, IfOk, IfErr, IfSome};
 ghost use Rattle.std.specs.Option.{option_copied};
 ghost use Rattle.cv_spec_text.specs.Splits.{IsSpelt};
 ghost use Rattle.cv_component.specs.Shared.{piece_of};

@@ -36,6 +36,11 @@ impl Model for Registry {
 
     ghost Value = { Registered };
 
+    ghost use Rattle.std.specs.Coded.{coded_list, coded×, coded_ℕ};
+    ghost use Rattle.cv_props.specs.contracts.entry.Entry as of_entry;
+
+    ghost coded = { coded_list (coded× (coded_list coded_ℕ) of_entry.the_row.coded) };
+
     ghost view = { λ registry. registry.entries.entries };
 
     ghost invariant = { λ registry. All IsRegistered registry.entries.entries };
