@@ -20,9 +20,6 @@ use Rattle.cv_valuation.proofs.Outcomes.{kept_of, get-with_outcome, get-valuatio
 use Rattle.cv_valuation.proofs.RowTest.{inherits_is, is_listed}
 use Rattle.cv_valuation.proofs.Tries.{has, has-append, absent, first_kept-each, found-Sets}
 
-
-
-
 -- a key that isn't listed has no outcome
 not_listed : (t : Trie) (i o : List Outcome) (q : Key) → has q (keys_in t ++ each Table properties) ≡ false → outcome_by t i o q ≡ Invalid
 not_listed t i o (Custom name) none =

@@ -5,9 +5,11 @@ use Rattle.cv_valuation.proofs.Rows.{inherits-kept, inherits-shared, outcome_at-
 use Rattle.cv_valuation.proofs.valuation.Valuation.inherited.Goals as goal
 
 pub invariant_of-result : goal.invariant_of-result
-invariant_of-result c =
-    (inherits-kept c.self.inside.custom _ c.self.inside.inherited c.self.inside.own _ c.initial.inside.custom c.initial.inside.inherited c.initial.inside.own _
-    c.in_ok-shared.ensures c.in_ok-share.ensures c.in_ok-share-2.ensures c.self.invariant.0 c.initial.invariant.0, refl)
+invariant_of-result c = (
+  inherits-kept c.self.inside.custom _ c.self.inside.inherited c.self.inside.own _ c.initial.inside.custom c.initial.inside.inherited c.initial.inside.own _
+      c.in_ok-shared.ensures c.in_ok-share.ensures c.in_ok-share-2.ensures c.self.invariant.0 c.initial.invariant.0,
+  refl,
+)
 
 pub returns : goal.returns
 returns c key =

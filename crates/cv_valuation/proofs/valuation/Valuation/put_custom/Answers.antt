@@ -10,9 +10,11 @@ invariant_of-self c =
     let old = c.self.inside.custom in
     let new = c.in_ok-self-inside.field-0 in
     let key = Custom c.args.name in
-    let sets = subst (λ path. Sets old new path key c.args.outcome) c.path_of-path.ensures c.in_ok-self-inside.ensures in
-    (kept-with old c.self.inside.inherited c.self.inside.own new c.self.inside.inherited c.self.inside.own key c.args.outcome
-    (sets-custom old new c.self.inside.inherited c.self.inside.own c.args.name c.args.outcome sets) c.self.invariant.0 c.requires, c.self.invariant.1)
+    let sets = subst (λ path. Sets old new path key c.args.outcome) c.path_of-path.ensures c.in_ok-self-inside.ensures in (
+      kept-with old c.self.inside.inherited c.self.inside.own new c.self.inside.inherited c.self.inside.own key c.args.outcome
+          (sets-custom old new c.self.inside.inherited c.self.inside.own c.args.name c.args.outcome sets) c.self.invariant.0 c.requires,
+      c.self.invariant.1,
+    )
 
 pub returns-clause-ok : goal.returns-clause-ok
 returns-clause-ok c =
