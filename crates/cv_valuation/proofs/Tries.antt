@@ -1,14 +1,12 @@
 -- What is found in a tree, and the values that it gives.
-use Rattle.std.proofs.Common.{◌≡◌, ℕ, ◌/◌, ◌%◌, Bool, true, false, cond, List, [], ◌∷◌, ◌++◌, Option, Some, None, refl, sym, ap, ◌∙◌, subst, unwrap_or, arith}
+use Rattle.std.proofs.Common.{◌≡◌, ℕ, ◌/◌, ◌%◌, Bool, true, false, cond, List, [], ◌∷◌, ◌++◌, Option, Some, None, refl, sym, ap, ◌∙◌, subst, arith}
 use Rattle.std.specs.Prelude.{◌||◌, ◌==◌, Result, Ok, Err, IfOk, map as each}
-use Rattle.std.specs.FinMap as map
 use Rattle.std.proofs.lemmas.Bool.Decides.{nat_tests}
 use Rattle.cv_valuation.specs.declared.key.Key.{Key}
 use Rattle.cv_valuation.specs.declared.outcome.Outcome.{Outcome}
 use Rattle.cv_valuation.specs.declared.outcome.Outcome.TheVariants.{Invalid}
 use Rattle.cv_valuation.specs.declared.trie.Trie.{Trie, Leaf, Fork'}
 use Rattle.cv_valuation.specs.Keys.{same_key}
-use Rattle.cv_valuation.specs.Valuations.{valuation_of}
 use Rattle.cv_valuation.specs.Tries.{found, found_at, path_of, keys_in, IsFork, FindsTheSame, Sets}
 use Rattle.cv_valuation.proofs.KeyOrder.{equal_keys}
 use Rattle.cv_valuation.proofs.Outcomes.{kept_of, first_kept}

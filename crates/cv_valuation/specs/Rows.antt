@@ -1,6 +1,5 @@
 -- Outcomes of ordinary properties in two rows: one of those that inherit, and one of the others.
-use Rattle.std.specs.Prelude.{ℕ, ◌-◌, nat_lt, if◌then◌else◌, List, [], ◌∷◌, ◌++◌, Option, Some, None, map, slice_get, unwrap_or}
-use Rattle.cv_property.specs.declared.property.Property.{Property}
+use Rattle.std.specs.Prelude.{ℕ, ◌-◌, nat_lt, if◌then◌else◌, List, ◌++◌, map, slice_get, unwrap_or}
 use Rattle.cv_property.specs.Table.{number_of, properties}
 use Rattle.cv_valuation.specs.declared.key.Key.{Key}
 use Rattle.cv_valuation.specs.declared.key.Key.TheVariants.{Custom, Table}

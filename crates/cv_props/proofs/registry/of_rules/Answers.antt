@@ -1,10 +1,10 @@
-use Rattle.std.proofs.Common.{◌≡◌, ◌∙◌, ◌+◌, ◌++◌, ◌∷◌, [], ℕ, List, length, take, ap, sym, subst, arith}
+use Rattle.std.proofs.Common.{◌≡◌, ◌∙◌, ◌+◌, ◌++◌, ◌∷◌, [], length, take, ap, sym, arith}
 use Rattle.std.specs.Map.{keys_of}
 use Rattle.std.proofs.lemmas.List.{take_more, length-take-le}
 use Rattle.cv_props.specs.Registered.{IsRegistered, entry_of}
 use Rattle.cv_props.proofs.Naming.{lookup_name}
 use Rattle.cv_props.specs.Registration.{registration}
-use Rattle.cv_props.specs.Sheets.{ignored, notes_on_rules, registered, registered_names, with_registration}
+use Rattle.cv_props.specs.Sheets.{ignored, notes_on_rules}
 use Rattle.cv_props.proofs.Numbered.{notes_on_rules-push}
 use Rattle.cv_props.proofs.Registering.{names-push, registered-push}
 use Rattle.cv_props.proofs.registry.of_rules.Goals as goal

@@ -2,7 +2,7 @@ use Rattle.std.proofs.Common.{◌≡◌, ℕ, List, take}
 use Rattle.std.specs.Prelude.{All}
 use Rattle.std.specs.Map.{keys_of}
 use Rattle.cv_props.specs.Registered.{IsRegistered}
-use Rattle.cv_props.specs.Sheets.{notes_on_rules, registered, registered_names, registrations}
+use Rattle.cv_props.specs.Sheets.{notes_on_rules, registered, registered_names}
 use Rattle.cv_props.specs.Registered.{entry_of}
 use Rattle.cv_props.proofs.registry.of_rules.Given as goal
 

@@ -1,4 +1,4 @@
-use Rattle.std.proofs.Common.{◌≡◌, ◌∙◌, ◌+◌, ◌++◌, ◌∷◌, [], ap, length, length-append, arith}
+use Rattle.std.proofs.Common.{◌∙◌, ◌∷◌, [], ap, length, length-append, arith}
 use Rattle.cv_valuation.specs.declared.outcome.Outcome.TheVariants.{Invalid}
 use Rattle.cv_valuation.specs.Rows.{in_row}
 use Rattle.cv_valuation.proofs.InRows.{in_row-push}

@@ -1,5 +1,4 @@
-use Rattle.std.proofs.Common.{arith, sym, subst, ap, ◌∙◌}
-use Rattle.std.proofs.lemmas.Bool.Decides.{nat_tests}
+use Rattle.std.proofs.Common.{arith}
 use Rattle.cv_valuation.proofs.RowTest.{number_below}
 use Rattle.cv_valuation.proofs.valuation.place_of.Goals as goal
 

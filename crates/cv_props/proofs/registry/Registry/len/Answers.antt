@@ -1,4 +1,4 @@
-use Rattle.std.proofs.Common.{subst, sym, ap, ◌∙◌}
+use Rattle.std.proofs.Common.{ap, ◌∙◌}
 use Rattle.cv_props.specs.Registered.{IsRegistered, entry_of}
 use Rattle.cv_props.proofs.Naming.{lookup_name}
 use Rattle.cv_props.proofs.registry.Registry.len.Goals as goal

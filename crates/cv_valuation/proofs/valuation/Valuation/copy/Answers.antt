@@ -1,6 +1,5 @@
 use Rattle.std.proofs.Common.{◌∙◌, refl, subst, sym}
 use Rattle.cv_valuation.specs.Valuations.{MayKeep}
-use Rattle.cv_valuation.specs.Rows.{outcome_by}
 use Rattle.cv_valuation.proofs.Rows.{same-shared, values_by-same}
 use Rattle.cv_valuation.proofs.valuation.Valuation.copy.Goals as goal
 

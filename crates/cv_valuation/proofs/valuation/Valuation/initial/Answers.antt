@@ -1,4 +1,4 @@
-use Rattle.std.proofs.Common.{◌∙◌, ap, sym, ◌≡◌, arith}
+use Rattle.std.proofs.Common.{◌∙◌, ap, ◌≡◌, arith}
 use Rattle.cv_valuation.specs.Starts.{initial_or}
 use Rattle.cv_valuation.specs.Valuations.{outcome_at}
 use Rattle.cv_valuation.proofs.Begun.{begun}
