@@ -17,6 +17,7 @@ pub mod KindsKept
 pub mod Least
 pub mod LinearKinds
 pub mod Measures
+pub mod NormalTerms
 pub mod Numbers
 pub mod ProductRange
 pub mod Ranges

@@ -3,6 +3,7 @@ pub mod Canonical
 pub mod Checked
 pub mod Counted
 pub mod Firsts
+pub mod Normal
 pub mod Number
 pub mod Row
 pub mod Simplified

@@ -1,0 +1,7 @@
+pub mod Arithmetic
+pub mod Conversion
+pub mod Parsed
+pub mod Refusal
+pub mod SumValue
+pub mod Text
+pub mod UnitMap
