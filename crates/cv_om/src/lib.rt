@@ -2,12 +2,16 @@
 #![tactic(auto)]
 
 mod arithmetic;
+mod choices;
 mod error;
 mod item;
 mod joining;
 mod numeric;
 mod operations;
 mod place;
+mod products;
+mod sum_value;
+mod terms;
 mod turned;
 mod unit_factor;
 mod unit_map;
