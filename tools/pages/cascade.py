@@ -136,12 +136,19 @@ def style_text(applied, with_places=True):
         declared = one.declared
         if declared.value is None:
             continue
-        if with_places and one.rule != rule and one.author:
-            parts.append(f"/* {one.file}:{declared.line} */" if one.file else "/* attribute */")
+        if with_places and one.rule != rule and (one.author or rule is None):
+            parts.append(f"/* {place_of(one)} */")
         rule = one.rule
         important = " !important" if declared.important else ""
         parts.append(f"{serialize_identifier(declared.name)}: {declared.value}{important};")
     return " ".join(parts)
+
+
+def place_of(applied):
+    """Where a declaration comes from, for people."""
+    if not applied.author:
+        return "browser"
+    return f"{applied.file}:{applied.declared.line}" if applied.file else "attribute"
 
 
 def untold(applied):

@@ -211,7 +211,7 @@ function makeValue(element, name) {
   row.append(marked("name", NAMES[name]), is, makeOrigin(origin, name));
   const cause = element.causes.get(name), declared = element.declared.get(name);
   if (declared && (cause || value === INVALID || TEXTS[declared.text] !== TEXTS[value])) row.append(makeDeclared(TEXTS[declared.text]));
-  if (cause) row.append(span("why", CAUSES[cause] + (cause === "missing" ? missing(element, declared) : "")));
+  if (cause) row.append(span("why", CAUSES[cause] + (cause === "missing" ? missing(element, declared) : "") + actsAs(name, value, element)));
   return row;
 }
 
@@ -241,6 +241,12 @@ function makeDeclared(text) {
     row.append(button);
   }
   return row;
+}
+
+/** What a declaration that is invalid at computed-value time acts as. */
+function actsAs(name, value, element) {
+  if (value === INVALID) return " The name has no value here.";
+  return ` It acts as unset: this is ${INHERITED[name] && element.parent !== null ? "the parent's value" : "the initial value"}.`;
 }
 
 function missing(element, declared) {
