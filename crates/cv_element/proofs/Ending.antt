@@ -15,7 +15,7 @@ use Rattle.cv_props.specs.declared.computed.Cause.{Cause as Reported}
 use Rattle.cv_props.specs.declared.decls.Decl.{Decl}
 use Rattle.cv_props.specs.declared.key.Key.{Key}
 use Rattle.cv_props.specs.declared.key.Key.TheVariants.{Custom, Table}
-use Rattle.cv_props.specs.declared.property.Property.TheVariants.{FontSize}
+use Rattle.cv_property.specs.declared.property.Property.TheVariants.{FontSize}
 use Rattle.cv_props.specs.Keys.{same_key}
 use Rattle.cv_props.specs.TableLaws.{PropertiesAreFound}
 use Rattle.cv_props.specs.Valuations.{Values, outcome_of, outcome_at}

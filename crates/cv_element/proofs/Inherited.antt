@@ -13,7 +13,7 @@ use Rattle.cv_spec_element.specs.Valuation as gives
 use Rattle.cv_spec_element.specs.Loose.{loose_outcome, loose_parent, IsLooselyLawful}
 use Rattle.cv_props.specs.declared.key.Key.{Key}
 use Rattle.cv_props.specs.declared.key.Key.TheVariants.{Table}
-use Rattle.cv_props.specs.declared.property.Property.TheVariants.{FontSize}
+use Rattle.cv_property.specs.declared.property.Property.TheVariants.{FontSize}
 use Rattle.cv_props.specs.Keys.{same_key}
 use Rattle.cv_props.specs.TableLaws.{PropertiesAreFound}
 use Rattle.cv_props.specs.Valuations.{Values, is_keyword, outcome_of, trim}

@@ -5,7 +5,7 @@ use Rattle.cv_props.specs.declared.key.Key.{Key}
 use Rattle.cv_props.specs.declared.key.Key.TheVariants.{Custom, Table}
 use Rattle.cv_props.specs.Keys.{same_key, code_of}
 use Rattle.cv_props.specs.KeyLaws.{same_code}
-use Rattle.cv_props.specs.Table.{number_of, numbered}
+use Rattle.cv_property.specs.Table.{number_of, numbered}
 use Rattle.cv_props.specs.TableLaws.{PropertiesAreFound}
 
 -- keys that are the same by the test are the same

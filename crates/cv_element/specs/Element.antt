@@ -22,7 +22,7 @@ use Rattle.cv_props.specs.declared.key.Key.{Key}
 use Rattle.cv_props.specs.declared.key.Key.TheVariants.{Custom, Table}
 use Rattle.cv_props.specs.declared.outcome.Outcome.{Outcome as Kept}
 use Rattle.cv_props.specs.declared.outcome.Outcome.TheVariants as kept
-use Rattle.cv_props.specs.declared.property.Property.TheVariants.{FontSize}
+use Rattle.cv_property.specs.declared.property.Property.TheVariants.{FontSize}
 use Rattle.cv_props.specs.Keys.{same_key, key_text}
 use Rattle.cv_props.specs.Valuations.{Values, MayKeep, outcome_at}
 use Rattle.cv_props.specs.Winners.{declaration_of}

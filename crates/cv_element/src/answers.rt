@@ -1,4 +1,5 @@
-// What a declaration gives.
+//! What a declaration gives.
+
 ghost use Rattle.std.specs.Prelude.{◌≡◌, ◌≤◌, All, false, IfOk};
 ghost use Rattle.std.specs.Option.{option_copied};
 ghost use Rattle.cv_spec_element.specs.Pieces.{sub};

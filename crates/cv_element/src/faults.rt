@@ -1,4 +1,5 @@
-// The invalid properties by their names.
+//! The invalid properties by their names.
+
 ghost use Rattle.std.specs.Prelude.{◌≡◌, IfOk, map};
 ghost use Rattle.std.specs.List.Sorted.{IsPermutation};
 ghost use Rattle.cv_props.specs.Keys.{key_text};

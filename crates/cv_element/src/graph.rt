@@ -1,4 +1,5 @@
-// The graph of references among the declared names.
+//! The graph of references among the declared names.
+
 ghost use Rattle.std.specs.Prelude.{◌≡◌, ◌≢◌, ◌↔◌, ◌<◌, ◌≤◌, ◌⊎◌, ℕ, List, [], Contains, length, eqb, IfOk, OnOk, bytes_eq};
 ghost use Rattle.std.specs.List.{IsDistinct};
 ghost use Rattle.cv_graph.specs.Edges.{targets, most_targets, edge_count, HasEdge};

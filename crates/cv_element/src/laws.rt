@@ -1,4 +1,5 @@
-// What is computed of an element is single.
+//! What is computed of an element is single.
+
 ghost use Rattle.std.specs.Prelude.{ℕ, Option};
 ghost use Rattle.cv_props.specs.declared.computed.Computed.{Computed};
 ghost use Rattle.cv_props.specs.Valuations.{Values};

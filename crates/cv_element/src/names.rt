@@ -1,4 +1,5 @@
-// The declared names, which are the nodes of an element's graph.
+//! The declared names, which are the nodes of an element's graph.
+
 ghost use Rattle.std.specs.Prelude.{◌≡◌, ◌⊎◌, ◌<◌, ◌≤◌, ◌+◌, ℕ, true, List, Contains, IsSome, length, bytes_eq, IfOk, OnOk};
 ghost use Rattle.std.specs.List.{IsDistinct};
 ghost use Rattle.cv_spec_text.specs.Keywords.{is_custom};

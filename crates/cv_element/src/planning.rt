@@ -1,4 +1,5 @@
-// The order in which the values of an element are settled.
+//! The order in which the values of an element are settled.
+
 ghost use Rattle.std.specs.Prelude.{◌≡◌, ◌≤◌, ◌+◌, ℕ, List, Option, length, true, Contains, IfOk};
 ghost use Rattle.cv_spec_text.specs.Keywords.{is_custom};
 ghost use Rattle.cv_graph.specs.Edges.{most_targets};

@@ -1,4 +1,5 @@
-// Why an element isn't computed.
+//! Why an element isn't computed.
+
 ghost use Rattle.std.specs.Prelude.{◌≡◌};
 
 use cv_spec_text::OutOfMemory;

@@ -1,4 +1,5 @@
-// The values of an element while they are settled, one name after another.
+//! The values of an element while they are settled, one name after another.
+
 ghost use Rattle.std.specs.Prelude.{◌≡◌, ◌≢◌, ◌⊎◌, ◌≤◌, ◌++◌, ◌∷◌, [], ℕ, List, Contains, true, false, IfOk, OnOk};
 ghost use Rattle.cv_spec_text.specs.Keywords.{is_custom};
 ghost use Rattle.cv_spec_element.specs.Pieces.{RefersTo, sub};

@@ -1,4 +1,5 @@
-// The values of an element.
+//! The values of an element.
+
 ghost use Rattle.std.specs.Prelude.{◌≡◌, ◌↔◌, ◌<◌, ◌≤◌, ◌+◌, ℕ, List, [], None, length, true, Contains, IsSome, IfOk, IfSome, OnOk};
 ghost use Rattle.std.specs.Option.{option_copied};
 ghost use Rattle.cv_spec_text.specs.Keywords.{is_custom};

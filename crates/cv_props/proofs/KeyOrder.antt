@@ -1,5 +1,5 @@
 -- The order of keys is total, and only equal keys tie.
-use Rattle.std.proofs.Common.{◌≡◌, true, Some, sym, ap, ◌∙◌}
+use Rattle.std.proofs.Common.{◌≡◌, true, ap}
 use Rattle.std.specs.Cmp.{IsTotalOrder, on_total}
 use Rattle.std.specs.Cmp.Lexicographic.{nat_list_cmp_total}
 use Rattle.std.specs.FinMap.{IsAntisymmetric, slice_cmp-IsAntisymmetric, nat_cmp-IsAntisymmetric}
@@ -7,14 +7,10 @@ use Rattle.std.specs.Ordering.{eq_by_cmp}
 use Rattle.std.proofs.lemmas.Map.Text.{is_eq-slice_cmp}
 use Rattle.cv_props.specs.declared.key.Key.{Key}
 use Rattle.cv_props.specs.declared.key.Key.TheVariants.{Custom, Table}
-use Rattle.cv_props.specs.declared.property.Property.{Property}
-use Rattle.cv_props.specs.Table.{number_of, numbered}
+use Rattle.cv_property.specs.Table.{number_of}
+use Rattle.cv_property.specs.Numbers.{same_number}
 use Rattle.cv_props.specs.Keys.{code_of, key_cmp, same_key}
 use Rattle.cv_props.specs.KeyLaws.{same_code}
-use Rattle.cv_props.proofs.TableTest.{number_found}
-
-same_number : (p q : Property) → number_of p ≡ number_of q → p ≡ q
-same_number p q same = let e : Some p ≡ Some q = sym (number_found p) ∙ ap numbered same ∙ number_found q in cc
 
 by_code : (a b : Key) → code_of a ≡ code_of b → a ≡ b
 by_code (Custom a) (Custom b) same = let e : a ≡ b = cc in ap Custom e

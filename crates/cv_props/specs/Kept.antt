@@ -15,7 +15,7 @@ use Rattle.cv_props.specs.declared.note.NotePlace.{NotePlace}
 use Rattle.cv_props.specs.declared.note.NotePlace.TheVariants.{Item}
 use Rattle.cv_props.specs.declared.note.Why.{Why}
 use Rattle.cv_props.specs.declared.note.Why.TheVariants.{AtRule, NotDeclaration, UnknownProperty, TooDeep, BadValue, BadVar}
-use Rattle.cv_props.specs.Table.{property_named}
+use Rattle.cv_property.specs.Table.{property_named}
 use Rattle.cv_props.specs.Keys.{key_named}
 
 -- the first reason for which a value is refused, if there is one

@@ -6,7 +6,7 @@ use Rattle.std.specs.Hash as fed
 use Rattle.std.proofs.lemmas.Slice.Eq.{bytes_eq-Decides}
 use Rattle.cv_props.specs.declared.key.Key.{Key}
 use Rattle.cv_props.specs.declared.key.Key.TheVariants.{Custom, Table}
-use Rattle.cv_props.specs.Table.{number_of}
+use Rattle.cv_property.specs.Table.{number_of}
 use Rattle.cv_props.specs.Keys.{code_of, same_key, key_input}
 
 pub same_key_equiv : IsEquivalence same_key

@@ -11,7 +11,7 @@ use Rattle.cv_spec_text.specs.Printing.{bytes}
 use Rattle.cv_spec_text.specs.declared.token.Token.TheVariants.{Ident}
 use Rattle.cv_props.specs.declared.key.Key.{Key}
 use Rattle.cv_props.specs.declared.key.Key.TheVariants.{Custom, Table}
-use Rattle.cv_props.specs.Table.{name_of, number_of, property_named}
+use Rattle.cv_property.specs.Table.{name_of, number_of, property_named}
 
 -- a list of numbers that tells a key from every other
 abbrev pub code_of : Key → List ℕ

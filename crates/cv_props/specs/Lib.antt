@@ -1,4 +1,3 @@
-pub mod Table
 pub mod Keys
 pub mod KeyLaws
 pub mod TableLaws

@@ -1,8 +1,8 @@
 -- What the table of properties keeps.
 use Rattle.std.specs.Prelude.{ℕ, ◌≡◌, ◌<◌, ◌≤◌, Some, None, IsSome}
+use Rattle.cv_property.specs.declared.property.Property.{Property}
+use Rattle.cv_property.specs.Table.{name_of, number_of, numbered}
 use Rattle.cv_props.specs.declared.key.Key.TheVariants.{Table}
-use Rattle.cv_props.specs.declared.property.Property.{Property}
-use Rattle.cv_props.specs.Table.{name_of, number_of, numbered}
 use Rattle.cv_props.specs.Keys.{key_named}
 
 -- Each property has a number of its own and a name of its own, and is found by them.

@@ -1,4 +1,5 @@
-// The values of an element, with the causes of those that are bad.
+//! The values of an element, with the causes of those that are bad.
+
 ghost use Rattle.std.specs.Prelude.{◌≡◌, IfOk};
 
 use crate::key::Key;

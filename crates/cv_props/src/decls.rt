@@ -1,4 +1,5 @@
-// The declarations of an element.
+//! The declarations of an element.
+
 ghost use Rattle.std.specs.Prelude.{◌≡◌, ◌<◌, [], length, slice_get, is_some, Some, All, IfOk, OnOk, OnErr};
 ghost use Rattle.std.specs.List.{IsDistinct};
 ghost use Rattle.std.specs.Option.{option_copied};

@@ -1,10 +1,11 @@
-// The names of properties.
+//! The names of properties.
+
 ghost use Rattle.std.specs.Prelude.{◌≡◌, ◌++◌, chars, IfOk, OnOk, OnErr};
 ghost use Rattle.std.specs.Cmp.{partial_equiv_from_equiv};
 ghost use Rattle.cv_props.specs.Keys.{key_input, key_named, key_text, same_key};
 ghost use Rattle.cv_props.specs.KeyLaws.{same_key_equiv, fed_alike};
 
-use crate::property::{Property, property_named};
+use cv_property::{Property, property_named};
 use cv_spec_text::Name;
 use cv_tokser::print_identifier;
 use std::alloc::{AllocError, Global};

@@ -1,4 +1,5 @@
-// What a property stands for, and the values of an element.
+//! What a property stands for, and the values of an element.
+
 ghost use Rattle.std.specs.Prelude.{◌≡◌, ◌++◌, IfOk, OnOk, OnErr};
 ghost use Rattle.std.specs.FinMap as map;
 ghost use Rattle.cv_spec_text.specs.Printing.{bytes};

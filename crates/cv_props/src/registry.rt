@@ -1,4 +1,5 @@
-// The custom properties that a sheet registers.
+//! The custom properties that a sheet registers.
+
 ghost use Rattle.std.specs.Prelude.{◌≡◌, ◌<◌, [], length, All, IfOk};
 ghost use Rattle.cv_spec_text.specs.Splits.{IsSpelt};
 ghost use Rattle.cv_component.specs.Rules.{rules};

@@ -1,10 +1,11 @@
-// The declarations of a style.
+//! The declarations of a style.
+
 ghost use Rattle.std.specs.Prelude.{◌≡◌, ◌++◌, ◌<◌, ◌≤◌, false, None, length, All, Ok, IfOk, IfErr, OnOk};
 ghost use Rattle.cv_spec_text.specs.Splits.{IsSpelt};
 ghost use Rattle.cv_component.specs.Items.{items};
 ghost use Rattle.cv_props.specs.Declaring.{MayDeclare};
 ghost use Rattle.cv_props.specs.Keys.{key_named};
-ghost use Rattle.cv_props.specs.Table.{property_named};
+ghost use Rattle.cv_property.specs.Table.{property_named};
 ghost use Rattle.cv_props.specs.Kept.{DeclareCustomAlone, declared_by, declared_by_item, declare_ordinary, declares_ordinary, kept_declarations, note_on, notes_on, value_fault};
 ghost use Rattle.cv_props.specs.Reading.{IsIgnored, IsRefused, IsSpeltItem, with_item};
 ghost use Rattle.cv_props.specs.Winners.{winners};
@@ -12,8 +13,8 @@ ghost use Rattle.cv_props.specs.Winners.{winners};
 use crate::decls::{Decl, Decls};
 use crate::key::Key;
 use crate::note::{Note, NotePlace, Why};
-use crate::property::property_named;
 use cv_component::{Piece, declarations};
+use cv_property::property_named;
 use cv_spec_text::{Name, Token};
 use cv_var::{Declared, VarErr, check};
 use std::alloc::{AllocError, Global};

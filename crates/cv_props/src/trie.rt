@@ -1,4 +1,5 @@
-// Outcomes by key in a tree whose copies share its nodes.
+//! Outcomes by key in a tree whose copies share its nodes.
+
 ghost use Rattle.std.specs.Prelude.{◌≡◌, IfOk};
 ghost use Rattle.std.specs.Option.{option_copied};
 ghost use Rattle.cv_props.specs.Tries.{found, path_of, IsFork, FindsTheSame, Sets};

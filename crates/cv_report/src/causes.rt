@@ -1,4 +1,5 @@
-// The causes of an element's faults by key.
+//! The causes of an element's faults by key.
+
 ghost use Rattle.std.specs.Prelude.{◌≡◌, [], ◌∷◌, ◌++◌, IfOk, OnOk};
 ghost use Rattle.std.specs.Option.{option_copied};
 ghost use Rattle.cv_props.specs.declared.key.Key as keys;

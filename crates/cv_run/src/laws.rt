@@ -1,4 +1,5 @@
-// The report of a document is single, and the names that it shows are those of properties.
+//! The report of a document is single, and the names that it shows are those of properties.
+
 ghost use Rattle.std.specs.Prelude.{◌≡◌, ℕ, All, List, is_some, length, true};
 ghost use Rattle.cv_doc.specs.declared.elements.Elem.{Elem};
 ghost use Rattle.cv_doc.specs.Kept.{IsTree};

@@ -1,4 +1,5 @@
-// The properties that a document shows, and the names that it counts.
+//! The properties that a document shows, and the names that it counts.
+
 ghost use Rattle.std.specs.Prelude.{◌≡◌, ◌++◌, ◌∷◌, [], IfOk, OnOk, bytes_eq, filter, length, option_map, true};
 ghost use Rattle.std.specs.List.{filter_map, list_any};
 ghost use Rattle.std.specs.Map.{keys_of};

@@ -1,4 +1,5 @@
-// What the pieces of a list are.
+//! What the pieces of a list are.
+
 ghost use Rattle.std.specs.Prelude.{List};
 ghost use Rattle.cv_spec_text.specs.declared.token.Token.{Token};
 ghost use Rattle.cv_var.specs.Checked.{IsChecked};

@@ -1,7 +1,7 @@
 use Rattle.std.proofs.Common.{sym, subst}
 use Rattle.std.specs.Option.{option_copied}
 use Rattle.cv_props.specs.declared.key.Key.TheVariants.{Table}
-use Rattle.cv_props.specs.declared.property.Property.TheVariants.{FontSize}
+use Rattle.cv_property.specs.declared.property.Property.TheVariants.{FontSize}
 use Rattle.cv_props.specs.Keys.{same_key}
 use Rattle.cv_element.specs.Element.{the_element, declared_in, is_white, keyword, lists_in, values_of, AreKept}
 use Rattle.cv_element.proofs.Ending.{loosely_lawful, settled_is, faults_are, settling_first}

@@ -1,0 +1,4 @@
+pub mod Joined
+pub mod Loops
+pub mod Powers
+pub mod Types

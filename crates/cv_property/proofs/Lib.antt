@@ -1,0 +1,4 @@
+mod TableTest
+pub mod Names
+pub mod Rows
+mod Words
