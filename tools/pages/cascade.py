@@ -22,7 +22,6 @@ class Applied:
     attached: bool  # by the element's own style attribute
     layer: Tuple
     file: str  # None where it is a style attribute
-    rule: int
 
     def same_layer(self, other):
         """Whether both are of one layer; a style attribute is one of its own."""
@@ -78,7 +77,7 @@ class Cascade:
         for declared in attached:
             entries.append((declared, True, True, (), (0, 0, 0), -1, None))
         entries.sort(key=weight)
-        applied = [Applied(declared, author, own, layer, file, order) for declared, author, own, layer, _, order, file in entries]
+        applied = [Applied(declared, author, own, layer, file) for declared, author, own, layer, _, _, file in entries]
         return rolled_back(applied)
 
 
@@ -130,25 +129,33 @@ def is_rollback(applied):
 
 
 def style_text(applied, with_places=True):
-    """The declarations as the text of a style; before what a rule of the author gives stands a comment with its file and line."""
-    parts, rule = [], None
+    """The declarations as the text of a style, behind comments with their places: `/* FILE:LINE */`, or `/* :LINE */` in the file before."""
+    parts, place = [], (None, None)
     for one in applied:
         declared = one.declared
         if declared.value is None:
             continue
-        if with_places and one.rule != rule and (one.author or rule is None):
-            parts.append(f"/* {place_of(one)} */")
-        rule = one.rule
+        if with_places and place_of(one) != place:
+            parts.append(place_comment(place_of(one), place[0]))
+            place = place_of(one)
         important = " !important" if declared.important else ""
         parts.append(f"{serialize_identifier(declared.name)}: {declared.value}{important};")
     return " ".join(parts)
 
 
 def place_of(applied):
-    """Where a declaration comes from, for people."""
+    """Where a declaration comes from: a file and a line, or a word without one."""
     if not applied.author:
-        return "browser"
-    return f"{applied.file}:{applied.declared.line}" if applied.file else "attribute"
+        return "browser", None
+    return (applied.file, applied.declared.line) if applied.file else ("attribute", None)
+
+
+def place_comment(place, file_before):
+    """The comment for a place."""
+    file, line = place
+    if line is None:
+        return f"/* {file} */"
+    return f"/* :{line} */" if file == file_before else f"/* {file}:{line} */"
 
 
 def untold(applied):
