@@ -23,9 +23,9 @@ class Applied:
     layer: Tuple
     file: str  # None where it is a style attribute
 
-    def same_layer(self, other):
-        """Whether both are of one layer; a style attribute is one of its own."""
-        return (self.author, self.attached, self.layer) == (other.author, other.attached, other.layer)
+    def level(self):
+        """What sorts the layers of the author's normal declarations; a style attribute is one of its own."""
+        return (self.attached, self.layer)
 
 
 class Cascade:
@@ -115,11 +115,18 @@ def rolled_back(applied):
     for name in names:
         winner = winner_of(applied, name)
         while winner is not None and winner.author and is_rollback(winner):
-            whole_origin = winner.declared.value.lower() == "revert"
-            applied = [one for one in applied if one.declared.name != name or not
-                       (one.author if whole_origin else one.same_layer(winner))]
+            applied = [one for one in applied if one.declared.name != name or stays_below(one, winner)]
             winner = winner_of(applied, name)
     return applied
+
+
+def stays_below(applied, winner):
+    """Whether a declaration stands below all that a rollback takes out: its origin or its layer, and what is between the
+    normal and the important declarations of that. What is above it can't be, for it wins.
+    """
+    if winner.declared.value.lower() == "revert" or not applied.author:
+        return not applied.author
+    return not applied.declared.important and applied.level() < winner.level()
 
 
 def is_rollback(applied):
