@@ -18,7 +18,7 @@ HELP = """\
 
   --limit N         the most tokens of a value after substitution, 1 to 32768 (16384)
   --size N          1 to 4096, for jobs that use it
-  --names           names the elements of a page as people do: #3 div.card > p
+  --names           names elements as people do, by the labels that tools/page writes: #3 div.card > p
   --viewport WxH    the viewport of a page (1280x720)
   --help            this text
 
@@ -98,7 +98,7 @@ def compute(words, data):
     answer, data = answer_and_document(words, data)
     if answer is None:
         return NO_PROGRAM
-    write_report(named_report(answer.report, data) if words.names else answer.report)
+    write_report(named_report(answer.report, data) if words.names and answer.report else answer.report)
     sys.stderr.write(answer.line)
     if not is_page(words.file):
         hint(answer.status, answer.line, data)
@@ -118,7 +118,7 @@ def answer_and_document(words, data, caught=False):
 def answer_to(words, data, caught):
     """The answer of the proved program, or a first look; None where no program could be had."""
     if program.is_current():
-        return run_proved(words, data, caught or is_page(words.file))
+        return run_proved(words, data, caught or words.names or is_page(words.file))
     trying.warn(data)
     return trying.look(words, data)
 

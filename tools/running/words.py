@@ -36,8 +36,6 @@ def read_words(arguments):
             take_file(words, word)
         else:
             take_option(words, word, rest)
-    if words.names and not is_page(words.file):
-        raise BadWords("--names wants a page, FILE.html")
     if words.viewport is not None and not is_page(words.file):
         raise BadWords("--viewport wants a page, FILE.html; a document has its own viewport")
     return words

@@ -96,6 +96,10 @@ class Styles(unittest.TestCase):
     def test_places_of_items(self):
         self.assertEqual([one.place for one in items(STYLE)][:5], ["a.css:3"] * 5)
 
+    def test_lines_of_one_file(self):
+        self.assertEqual([one.place for one in items("/* a:b.css:3 */ --a: 1; /* :4 */ --b: 2; --c: 3; /* browser */ --d: 4")],
+                         ["a:b.css:3", "a:b.css:4", "a:b.css:4", "browser"])
+
     def test_winners(self):
         self.assertEqual({name: one.value for name, one in winners(STYLE, ignored={2}).items()},
                          {"--a": "1", "--c:d": "a/**/b", "--e": "{a; b}", "--f": '";"', "color": "red"})

@@ -22,7 +22,7 @@ TAKEN = (
     (["--", "--names"], Words(file="--names")),
 )
 REFUSED = (["--limt", "5"], ["--limit"], ["--limit", "0"], ["--limit", "32769"], ["--limit", "5", "--limit=5"], ["a", "b"], ["--size", "x"],
-           ["a.json", "--names"], ["a.json", "--viewport", "1x1"], ["p.html", "--viewport", "wide"], ["-x"])
+           ["a.json", "--viewport", "1x1"], ["p.html", "--viewport", "wide"], ["-x"])
 
 
 def run(*words, given=b""):

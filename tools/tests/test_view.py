@@ -112,7 +112,7 @@ class ViewShows(unittest.TestCase):
         self.browser.press("i", "i")
         self.assertEqual(self.chosen(), "p.note #2")
         self.assertIn("declared as var(--nothing)", self.row_of("--lost"))
-        self.assertIn("Without a value: --nothing.", self.row_of("--lost"))
+        self.assertIn("to a name that has no value here: --nothing.", self.row_of("--lost"))
         self.assertIn("On a dependency cycle", self.row_of("--round"))
 
     def test_ignored_declarations(self):
