@@ -1,9 +1,13 @@
 """./run as a whole: reads the words, takes the proved program or a first look, and says what more there is to say."""
+import os
 import subprocess
 import sys
 
+from documents.places import read_json
+from documents.report import with_labels
 from running import program, trying
-from running.hints import hint
+from running.answers import Answer
+from running.hints import NOT_BUILT, hint
 from running.proving import prove, tell
 from running.words import BadWords, is_page, read_words
 
@@ -39,6 +43,11 @@ exit  line on standard error            when
 """
 MOST_BYTES = 16_777_216
 NO_PROGRAM, BAD_WORDS, NO_INPUT = 1, 2, 3
+PAGE = os.path.join(program.TOP, "tools", "page")
+
+
+class Refused(Exception):
+    """A page from which no document could be made; its argument is the exit status."""
 
 
 def main(arguments):
@@ -57,6 +66,8 @@ def main(arguments):
         return 0
     try:
         data = read_document(words)
+    except Refused as error:
+        return error.args[0]
     except OSError as error:
         tell(f"{words.file or 'standard input'} can't be read: {error.strerror}")
         return NO_INPUT
@@ -66,30 +77,70 @@ def main(arguments):
 def read_document(words):
     """The bytes of the document, one more than the program takes at most."""
     if is_page(words.file):
-        raise NotImplementedError("pages")
+        return read_page(words)
     if words.file in (None, "-"):
         return sys.stdin.buffer.read(MOST_BYTES + 1)
     with open(words.file, "rb") as file:
         return file.read(MOST_BYTES + 1)
 
 
+def read_page(words, *more):
+    """The document of a page, by tools/page; what that leaves out it says itself."""
+    options = ["--viewport", words.viewport] if words.viewport else []
+    ended = subprocess.run([sys.executable, PAGE, *options, *more, "--", words.file], stdout=subprocess.PIPE)
+    if ended.returncode != 0:
+        raise Refused(ended.returncode)
+    return ended.stdout
+
+
 def compute(words, data):
     """Computes a document, and says more where there is more to say; gives the exit status."""
+    answer, data = answer_and_document(words, data)
+    if answer is None:
+        return NO_PROGRAM
+    write_report(named_report(answer.report, data) if words.names else answer.report)
+    sys.stderr.write(answer.line)
+    if not is_page(words.file):
+        hint(answer.status, answer.line, data)
+    return answer.status
+
+
+def answer_and_document(words, data, caught=False):
+    """The answer to a document, and that document; of a page the custom properties alone where the program builds no others."""
+    answer = answer_to(words, data, caught)
+    if answer is not None and answer.status == NOT_BUILT and is_page(words.file):
+        tell("the program doesn't build ordinary properties and @property yet: these are the custom properties alone")
+        data = read_page(words, "--only-custom")
+        answer = answer_to(words, data, caught)
+    return answer, data
+
+
+def answer_to(words, data, caught):
+    """The answer of the proved program, or a first look; None where no program could be had."""
     if program.is_current():
-        status, line = run_proved(words, data)
-    else:
-        trying.warn(data)
-        answer = trying.look(words, data)
-        if answer is None:
-            return NO_PROGRAM
-        status, line = answer
-    sys.stderr.write(line)
-    hint(status, line, data)
-    return status
+        return run_proved(words, data, caught or is_page(words.file))
+    trying.warn(data)
+    return trying.look(words, data)
 
 
-def run_proved(words, data):
-    """Runs the proved program; its report goes straight to standard output."""
-    ended = subprocess.run([program.PROGRAM, words.job, *words.options], input=data, stderr=subprocess.PIPE)
+def run_proved(words, data, caught):
+    """Runs the proved program. Where its report isn't caught it goes straight to standard output."""
+    sink = subprocess.PIPE if caught else None
+    ended = subprocess.run([program.PROGRAM, words.job, *words.options], input=data, stdout=sink, stderr=subprocess.PIPE)
     status = ended.returncode if ended.returncode >= 0 else 128 - ended.returncode
-    return status, ended.stderr.decode("utf-8", "replace")
+    return Answer(status, ended.stderr.decode("utf-8", "replace"), ended.stdout or b"")
+
+
+def named_report(report, data):
+    """A report in which elements are named by their labels in the document."""
+    labels = [element.get("label", "") for element in read_json(data)["elements"]]
+    return with_labels(report, labels)
+
+
+def write_report(report):
+    """Writes a report to standard output; a reader that has enough is no fault of ours."""
+    try:
+        sys.stdout.buffer.write(report)
+        sys.stdout.buffer.flush()
+    except BrokenPipeError:
+        os.dup2(os.open(os.devnull, os.O_WRONLY), sys.stdout.fileno())

@@ -5,6 +5,7 @@ import subprocess
 import sys
 
 from running import program
+from running.answers import Answer
 from running.proving import tell
 
 LARGE = 200_000  # bytes of a document from which the proved program is wanted
@@ -19,7 +20,7 @@ def warn(data):
 
 
 def look(words, data):
-    """Runs the program on `data`, writes its report and gives its status and its line; None where there is no answer."""
+    """The answer of the program to `data`, without a proof; None where there is no answer."""
     if shutil.which("rt") is None:
         tell("the Rattle kit's command 'rt' isn't on the path, and it alone can build the program")
         return None
@@ -30,15 +31,5 @@ def look(words, data):
         sys.stderr.write(told)
         tell("the first look gave no answer: it takes about a minute of computing and 1 MiB of report at most; './run --prove' proves the program")
         return None
-    write_report(ended.stdout)
     lines = [line for line in told.splitlines() if line.startswith("cssvars: ")]
-    return int(verdict.group(1)), "".join(line + "\n" for line in lines)
-
-
-def write_report(report):
-    """Writes the report to standard output; a reader that has enough is no fault of ours."""
-    try:
-        sys.stdout.buffer.write(report)
-        sys.stdout.buffer.flush()
-    except BrokenPipeError:
-        sys.stdout = None
+    return Answer(int(verdict.group(1)), "".join(line + "\n" for line in lines), ended.stdout)

@@ -3,6 +3,8 @@ pub mod Inside
 pub mod Reading
 pub mod Pieces
 pub mod ItemSteps
+pub mod Spelt
+pub mod Sharing
 pub mod RuleSteps
 pub mod Splits
 pub mod Ends

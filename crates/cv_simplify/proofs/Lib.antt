@@ -1,4 +1,5 @@
 pub mod Apart
+pub mod Appends
 pub mod Bounds
 pub mod Canonical
 pub mod CleanTexts
@@ -17,6 +18,7 @@ pub mod KindsKept
 pub mod Least
 pub mod LinearKinds
 pub mod Measures
+pub mod NormalTerms
 pub mod Numbers
 pub mod ProductRange
 pub mod Ranges

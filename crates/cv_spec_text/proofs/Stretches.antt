@@ -1,5 +1,5 @@
 -- Stretches of lists, and of stretches.
-use Rattle.std.proofs.Common.{◌≡◌, ℕ, suc, zero, ◌+◌, ◌-◌, ◌≤◌, List, [], ◌∷◌, length, take, drop, refl, ◌∙◌, ap, length-take, length-drop, arith}
+use Rattle.std.proofs.Common.{◌≡◌, ℕ, suc, zero, ◌+◌, ◌-◌, ◌≤◌, List, [], ◌∷◌, length, take, drop, refl, sym, ◌∙◌, ap, length-take, length-drop, arith}
 use Rattle.std.proofs.lemmas.List.{drop-drop}
 use Rattle.cv_spec_text.specs.Stretch.{stretch}
 
@@ -35,3 +35,25 @@ module _ {X : Type 0} where
 
   pub stretch_whole : (items : List X) (n : ℕ) → n ≡ length items → stretch items 0 n ≡ items
   stretch_whole items n is = take_all (n - 0) items (omega (arith, is))
+
+  take_none : (n : ℕ) → ◌≡◌ {A = List X} (take n []) []
+  take_none zero = refl
+  take_none (suc n) = refl
+
+  drop_of_take : (k n : ℕ) (xs : List X) → drop k (take n xs) ≡ take (n - k) (drop k xs)
+  drop_of_take zero n xs = let same : n ≡ n - 0 = omega arith in ap (λ m. take m xs) same
+  drop_of_take (suc k) zero xs = let none : 0 ≡ 0 - suc k = omega arith in ap (λ m. take m (drop (suc k) xs)) none
+  drop_of_take (suc k) (suc n) [] = sym (take_none (suc n - suc k))
+  drop_of_take (suc k) (suc n) (x ∷ xs) = let same : n - k ≡ suc n - suc k = omega arith in drop_of_take k n xs ∙ ap (λ m. take m (drop k xs)) same
+
+  -- what comes behind the front of a stretch is a stretch
+  pub drop_of_stretch : (items : List X) (from to k : ℕ) → drop k (stretch items from to) ≡ stretch items (from + k) to
+  drop_of_stretch items from to k =
+      let same : to - from - k ≡ to - (from + k) = omega arith in
+      drop_of_take k (to - from) (drop from items)
+      ∙ ap (take (to - from - k)) (drop-drop k from items)
+      ∙ ap (λ n. take n (drop (from + k) items)) same
+
+  -- the tokens from a place on
+  pub stretch_on : (items : List X) (from to : ℕ) → to ≡ length items → stretch items from to ≡ drop from items
+  stretch_on items from to is = take_all (to - from) (drop from items) (omega (arith, is, length-drop from items))

@@ -7,6 +7,7 @@ pub mod Lending
 pub mod Naming
 pub mod SegmentSteps
 pub mod PiecesRead
+pub mod Plain
 pub mod Ends
 pub mod GoodLists
 pub mod BlockFronts

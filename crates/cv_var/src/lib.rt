@@ -15,5 +15,7 @@ mod value;
 pub use declared::{Declared, check};
 pub use flat::Part;
 pub use laws::{checked_lists_hold_no_var, pieces_are_read};
+pub use parts::has_var;
 pub use refusal::VarErr;
 pub use segment::Segment;
+pub use value::is_value;

@@ -17,7 +17,9 @@ fn add_name(names: &mut IndexSet<Name>, part: Part<'_>) -> Result<(), OutOfMemor
     ensures { OnOk result (names.new.keys ≡ fold with_name names.old.keys (names_in (flat part.entry ∷ []))) }
 {
     if let Part::Reference { name, .. } = part {
-        names.insert(name.copy()?)?;
+        if !names.contains(name) {
+            names.insert(name.copy()?)?;
+        }
     }
     Ok(())
 }
