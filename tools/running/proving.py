@@ -10,6 +10,7 @@ from running import program
 
 # A crate is proved by two processors at least, where there are two.
 AT_ONCE = max(1, (os.cpu_count() or 1) // 2)
+MOST_LINES = 10  # of a log that are told
 
 
 def prove():
@@ -72,10 +73,12 @@ def first_ended(running):
 
 
 def fail(crate, log):
-    """Tells that a crate wasn't proved, with the end of its log."""
-    with open(log, encoding="utf-8", errors="replace") as lines:
-        for line in lines.read().splitlines()[-10:]:
-            print(f"    {line}", file=sys.stderr)
+    """Tells that a crate wasn't proved, with the first errors of its log, or its end where it names none."""
+    with open(log, encoding="utf-8", errors="replace") as file:
+        lines = file.read().splitlines()
+    errors = [line for line in lines if ": error: " in line]
+    for line in errors[:MOST_LINES] or lines[-MOST_LINES:]:
+        print(f"    {line}", file=sys.stderr)
     tell(f"{crate} was not proved; the whole log is {log}")
 
 
