@@ -25,3 +25,4 @@ pub mod LengthNumber
 pub mod Written
 pub mod Taken
 pub mod Free
+pub mod UnitFigures

@@ -1,4 +1,11 @@
+pub mod Chosen
+pub mod Codes
 pub mod Joined
 pub mod Loops
 pub mod Powers
+pub mod FoundTerms
+pub mod Refusals
+pub mod SumValues
 pub mod Types
+pub mod UnitFactors
+pub mod UnitMaps

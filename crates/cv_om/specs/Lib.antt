@@ -1,4 +1,6 @@
 pub mod Arithmetic
+pub mod Choice
+pub mod Coded
 pub mod Conversion
 pub mod Numeric
 pub mod Parsed

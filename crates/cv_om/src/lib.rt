@@ -2,13 +2,19 @@
 #![tactic(auto)]
 
 mod arithmetic;
+mod choices;
 mod error;
 mod item;
 mod joining;
 mod numeric;
 mod operations;
 mod place;
+mod products;
+mod sum_value;
+mod terms;
 mod turned;
+mod unit_factor;
+mod unit_map;
 
 pub use error::OmErr;
 pub use item::SumItem;

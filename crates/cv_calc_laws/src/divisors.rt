@@ -1,0 +1,10 @@
+//! The divisors of a calculation.
+
+ghost use Rattle.cv_calc_laws.specs.Divisors.{FiguresAreCounted, UnitsHaveNoFigure};
+
+/// A calculation that is made of numbers alone is out of range as a divisor exactly where a fraction that is counted in it is out of
+/// bounds, and else simplifies to its value. One that holds a unit is no such divisor.
+pub fn divisors_are_counted()
+    ensures counted { FiguresAreCounted }
+    ensures units { UnitsHaveNoFigure }
+{}
