@@ -9,7 +9,7 @@ from running import program, trying
 from running.answers import Answer
 from running.hints import NOT_BUILT, hint
 from running.proving import prove, tell
-from running.words import BadWords, is_page, read_words
+from running.words import JOBS, BadWords, is_page, read_words
 
 HELP = """\
 ./run [OPTIONS] [FILE]      computes a document and writes its report; without FILE, or as -, from standard input
@@ -76,6 +76,8 @@ def main(arguments):
 
 def read_document(words):
     """The bytes of the document, one more than the program takes at most."""
+    if not JOBS[words.job]:
+        return b""
     if is_page(words.file):
         return read_page(words)
     if words.file in (None, "-"):
