@@ -1,5 +1,6 @@
 """./run as a whole: reads the words, takes the proved program or a first look, and says what more there is to say."""
 import os
+import signal
 import subprocess
 import sys
 
@@ -60,8 +61,11 @@ def main(arguments):
     if words.help:
         sys.stdout.write(HELP)
         return 0
-    if words.prove and not prove():
-        return NO_PROGRAM
+    try:
+        if words.prove and not prove():
+            return NO_PROGRAM
+    except KeyboardInterrupt:
+        return 128 + signal.SIGINT
     if words.prove and words.file is None:
         return 0
     try:

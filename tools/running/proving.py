@@ -1,6 +1,7 @@
 """Proving and building the program, crate by crate, with a line for each crate that is proved."""
 import os
 import shutil
+import signal
 import subprocess
 import sys
 import tempfile
@@ -18,6 +19,7 @@ def prove():
     if shutil.which("rt") is None:
         tell("the Rattle kit's command 'rt' isn't on the path, and it alone can prove the program")
         return False
+    signal.signal(signal.SIGTERM, lambda number, frame: sys.exit(128 + number))  # so that what was started is ended too
     order, began = program.crates_in_order(), time.monotonic()
     tell(f"proving {len(order)} crates, up to {AT_ONCE} at a time; what was proved before is kept, the first time takes about half an hour")
     logs = tempfile.mkdtemp(prefix="cssvars-prove-")
