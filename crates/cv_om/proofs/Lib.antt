@@ -1,5 +1,6 @@
 pub mod Chosen
 pub mod Codes
+pub mod Collections
 pub mod Joined
 pub mod Loops
 pub mod Powers

@@ -109,3 +109,14 @@ module _ {A B : Type 0} (step : Result A OmErr → B → Result A OmErr) (stays 
   fold_refused_at bs i d b first a h is kept q same =
       refusal_along q (fold step first bs)
       (λ z e. sym kept ∙ ap (fold step (Ok a)) (front_at bs i d b h is) ∙ ap (λ r. fold step r (drop (i + 1) bs)) (sym same ∙ e) ∙ fold_refused z (drop (i + 1) bs))
+
+  pub fold_refused_is : (bs : List B) (i : ℕ) (d b : B) (first : Result A OmErr) (a : A) → i < length bs → b ≡ get_or bs i d → fold step (Ok a) (drop i bs) ≡ fold step first bs → (z : OmErr) → step (Ok a) b ≡ Err z → Err z ≡ fold step first bs
+  fold_refused_is bs i d b first a h is kept z e =
+      sym (sym kept ∙ ap (fold step (Ok a)) (front_at bs i d b h is) ∙ ap (λ r. fold step r (drop (i + 1) bs)) e ∙ fold_refused z (drop (i + 1) bs))
+
+pub refusal_is : {A : Type 0} (a : Result A OmErr) (z : OmErr) → a ≡ Err z → IsRefusal a z
+refusal_is a Syntax e = e
+refusal_is a BadType e = e
+refusal_is a RangeError e = e
+refusal_is a Range e = e
+refusal_is a Memory e = tt

@@ -3,6 +3,8 @@
 
 mod arithmetic;
 mod choices;
+mod collection;
+mod conversion;
 mod error;
 mod item;
 mod joining;
