@@ -21,7 +21,7 @@ def prove():
         return False
     signal.signal(signal.SIGTERM, lambda number, frame: sys.exit(128 + number))  # so that what was started is ended too
     order, began = program.crates_in_order(), time.monotonic()
-    tell(f"proving {len(order)} crates, up to {AT_ONCE} at a time; what was proved before is kept, the first time takes about half an hour")
+    tell(f"proving {len(order)} crates, up to {AT_ONCE} at a time; what was proved before is kept, the first time takes half an hour and more")
     logs = tempfile.mkdtemp(prefix="cssvars-prove-")
     if not prove_in_order(order, logs, began):
         return False
