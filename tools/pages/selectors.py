@@ -88,13 +88,28 @@ def compiled(tokens, parents=None):
     for part in parts:
         text = written_out(part, parents)
         try:
-            found += [one for one in cssselect2.compile_selector_list(text) if one.pseudo_element is None]
+            new = [one for one in cssselect2.compile_selector_list(text) if one.pseudo_element is None]
+            for one in new:
+                one.specificity = tuple(map(sum, zip(one.specificity, weight_of_lists(part))))
+            found += new
         except Exception as error:  # cssselect2 fails in several ways on what it doesn't know
             unknown = str(error.args[-1]) if error.args else type(error).__name__
             if unknown not in UNKNOWN_HERE and not isinstance(error, NotImplementedError):
                 raise BadSelector(f"with a selector that no browser takes, {text}") from None
             left.append((text, unknown))
     return found, left
+
+
+def weight_of_lists(tokens):
+    """What the list behind `of` in :nth-child() adds to a selector's specificity, which cssselect2 doesn't count."""
+    weight = (0, 0, 0)
+    for token in tokens:
+        if token.type == "function" and token.lower_name in ("nth-child", "nth-last-child"):
+            words = [argument.lower_value if argument.type == "ident" else None for argument in token.arguments]
+            if "of" in words:
+                inner = cssselect2.compile_selector_list(token.arguments[words.index("of") + 1:])
+                weight = tuple(map(sum, zip(weight, max(one.specificity for one in inner))))
+    return weight
 
 
 def is_selector(tokens):

@@ -16,12 +16,14 @@ TAKEN = (
     (["a.json"], Words(file="a.json")),
     (["a b.json", "--limit", "5"], Words(file="a b.json", options=["--limit=5"])),
     (["--limit=007", "--size", "+5", "-"], Words(file="-", options=["--limit=007", "--size=+5"])),
+    (["compute", "a.json"], Words(has_job=True, file="a.json")),
+    (["./compute"], Words(file="./compute")),
     (["--prove"], Words(prove=True)),
     (["--help"], Words(help=True)),
     (["p.html", "--names", "--viewport", "10x20"], Words(file="p.html", names=True, viewport="10x20")),
     (["--", "--names"], Words(file="--names")),
 )
-REFUSED = (["--limt", "5"], ["--limit"], ["--limit", "0"], ["--limit", "32769"], ["--limit", "5", "--limit=5"], ["a", "b"], ["--size", "x"],
+REFUSED = (["--limt", "5"], ["--limit"], ["--limit", "0"], ["--limit", "32769"], ["--limit", "5", "--limit=5"], ["a", "b"], ["compute", "compute", "b"], ["--size", "x"],
            ["a.json", "--viewport", "1x1"], ["p.html", "--viewport", "wide"], ["-x"])
 
 
