@@ -1,5 +1,6 @@
 """./run as a whole: reads the words, takes the proved program or a first look, and says what more there is to say."""
 import os
+import signal
 import subprocess
 import sys
 
@@ -9,7 +10,7 @@ from running import program, trying
 from running.answers import Answer
 from running.hints import NOT_BUILT, hint
 from running.proving import prove, tell
-from running.words import BadWords, is_page, read_words
+from running.words import JOBS, BadWords, is_page, read_words
 
 HELP = """\
 ./run [OPTIONS] [FILE]      computes a document and writes its report; without FILE, or as -, from standard input
@@ -60,8 +61,11 @@ def main(arguments):
     if words.help:
         sys.stdout.write(HELP)
         return 0
-    if words.prove and not prove():
-        return NO_PROGRAM
+    try:
+        if words.prove and not prove():
+            return NO_PROGRAM
+    except KeyboardInterrupt:
+        return 128 + signal.SIGINT
     if words.prove and words.file is None:
         return 0
     try:
@@ -76,6 +80,8 @@ def main(arguments):
 
 def read_document(words):
     """The bytes of the document, one more than the program takes at most."""
+    if not JOBS[words.job]:
+        return b""
     if is_page(words.file):
         return read_page(words)
     if words.file in (None, "-"):

@@ -39,6 +39,8 @@ SHORTHANDS = (
     ("font: italic 12px/1.5 serif", {"font-size": "12px", "line-height": "1.5"}),
     ("font: inherit", {"font-size": "inherit", "line-height": "inherit"}),
     ("margin: var(--a)", dict.fromkeys(("margin-top", "margin-right", "margin-bottom", "margin-left"))),
+    ("padding: 1px -2px", {}),
+    ("margin: 1px red", {}),
     ("box-shadow: none", None),
 )
 

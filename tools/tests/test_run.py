@@ -1,10 +1,12 @@
 """The command ./run."""
+import json
 import os
 import subprocess
 import sys
 import tempfile
 import unittest
 
+from documents.properties import NAMES
 from running import program
 from running.unbuilt import first_unbuilt
 from running.words import BadWords, Words, read_words
@@ -16,12 +18,14 @@ TAKEN = (
     (["a.json"], Words(file="a.json")),
     (["a b.json", "--limit", "5"], Words(file="a b.json", options=["--limit=5"])),
     (["--limit=007", "--size", "+5", "-"], Words(file="-", options=["--limit=007", "--size=+5"])),
+    (["compute", "a.json"], Words(has_job=True, file="a.json")),
+    (["./compute"], Words(file="./compute")),
     (["--prove"], Words(prove=True)),
     (["--help"], Words(help=True)),
     (["p.html", "--names", "--viewport", "10x20"], Words(file="p.html", names=True, viewport="10x20")),
     (["--", "--names"], Words(file="--names")),
 )
-REFUSED = (["--limt", "5"], ["--limit"], ["--limit", "0"], ["--limit", "32769"], ["--limit", "5", "--limit=5"], ["a", "b"], ["--size", "x"],
+REFUSED = (["--limt", "5"], ["--limit"], ["--limit", "0"], ["--limit", "32769"], ["--limit", "5", "--limit=5"], ["a", "b"], ["compute", "compute", "b"], ["--size", "x"],
            ["a.json", "--viewport", "1x1"], ["p.html", "--viewport", "wide"], ["-x"])
 
 
@@ -77,6 +81,10 @@ class AnswersOfRun(unittest.TestCase):
 
     def test_the_place_of_what_is_no_json(self):
         self.assertEqual(run(given=b'{"elements":[}'), (5, "", ["cssvars: malformed: not JSON", "run: line 1, column 14: Expecting value"]))
+
+    def test_the_ordinary_names_are_those_of_the_program(self):
+        document = {"elements": [{"parent": None}], "show": list(NAMES)}
+        self.assertNotEqual(run(given=json.dumps(document).encode())[0], 5)
 
     def test_misspelt_members(self):
         status, output, lines = run(given=b'{"elements":[{"parent":null,"sytle":"--a: 1"}]}')

@@ -171,8 +171,9 @@ function showValues() {
     button.querySelector("span").textContent = all.filter(tests[button.dataset.filter]).length;
     button.setAttribute("aria-pressed", button.dataset.filter === filter);
   }
-  const first = all.filter(tests.declared), rest = all.filter(name => !tests.declared(name));
-  const shown = [...first, ...rest].filter(tests[filter]).filter(name => !query || isHit(chosen, name) || labelHit(element));
+  const ranks = all.map(name => [element.declared.has(name) ? 0 : valueOf(chosen, name) !== INVALID ? 1 : 2, name]);
+  const sorted = ranks.sort((a, b) => a[0] - b[0]).map(([, name]) => name);  // declared here, then with a value, then without one
+  const shown = sorted.filter(tests[filter]).filter(name => !query || isHit(chosen, name) || labelHit(element));
   const list = shown.map(name => makeValue(element, name));
   if (element.notes.length && filter !== "changed" && !query) list.unshift(makeNotes(element));
   if (!list.length) list.push(Object.assign(document.createElement("div"), { className: "empty", textContent: "No name to show." }));

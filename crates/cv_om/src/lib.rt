@@ -10,6 +10,8 @@ mod item;
 mod joining;
 mod numeric;
 mod operations;
+mod own_units;
+mod parsing;
 mod place;
 mod products;
 mod sum_value;

@@ -3,4 +3,9 @@ mod Keeping
 mod Numbered
 mod Items
 mod Split
+mod Said
+mod Naming
+mod Registering
+mod Syntaxes
+mod Universal
 mod Few

@@ -14,7 +14,8 @@ ghost use Rattle.cv_props.specs.Sheets.{ignored, notes_on_rules, registered, reg
 
 use crate::entry::Entry;
 use crate::note::{Note, NotePlace};
-use crate::registration::{Refusal, read_rule, viewport};
+use crate::refusal::Refusal;
+use crate::registration::{read_rule, viewport};
 use cv_calc::Context;
 use cv_component::{Rule, rules};
 use cv_spec_text::{Name, Token};
@@ -34,6 +35,11 @@ impl Model for Registry {
     ghost use Rattle.cv_props.specs.Registered.{IsRegistered, Registered};
 
     ghost Value = { Registered };
+
+    ghost use Rattle.std.specs.Coded.{coded_list, coded×, coded_ℕ};
+    ghost use Rattle.cv_props.specs.contracts.entry.Entry as of_entry;
+
+    ghost coded = { coded_list (coded× (coded_list coded_ℕ) of_entry.the_row.coded) };
 
     ghost view = { λ registry. registry.entries.entries };
 
