@@ -26,3 +26,4 @@ pub mod Written
 pub mod Taken
 pub mod Free
 pub mod UnitFigures
+pub mod RefusedDivisors

@@ -4,3 +4,4 @@ pub mod Fonts
 pub mod OfType
 pub mod Pieces
 pub mod Divisors
+pub mod Refused
