@@ -8,6 +8,7 @@ pub mod Powers
 pub mod FoundTerms
 pub mod Refusals
 pub mod SumValues
+pub mod Texts
 pub mod Types
 pub mod UnitFactors
 pub mod UnitMaps

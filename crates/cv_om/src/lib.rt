@@ -16,6 +16,8 @@ mod place;
 mod products;
 mod sum_value;
 mod terms;
+mod text;
+mod tokens;
 mod turned;
 mod unit_factor;
 mod unit_map;
