@@ -7,6 +7,7 @@ pub mod Loops
 pub mod Powers
 pub mod FoundTerms
 pub mod Refusals
+pub mod Sames
 pub mod SumValues
 pub mod Texts
 pub mod Types

@@ -5,6 +5,7 @@ mod arithmetic;
 mod choices;
 mod collection;
 mod conversion;
+mod equality;
 mod error;
 mod item;
 mod joining;
