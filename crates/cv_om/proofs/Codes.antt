@@ -14,7 +14,7 @@ back : (u : units.Unit) → slice_get all_units (unit_number u) ≡ Some u
 back Number = refl
 back _ = refl
 
-self_same : (u : units.Unit) → same_unit u u ≡ true
+pub self_same : (u : units.Unit) → same_unit u u ≡ true
 self_same Number = refl
 self_same _ = refl
 

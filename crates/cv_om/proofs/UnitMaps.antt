@@ -30,7 +30,7 @@ power_none ps i u h = ap (λ qs. power_in qs u) (sym (drop_all i ps h))
 
 -- ---- tests of all
 
-and_false : (b : Bool) → (b && false) ≡ false
+pub and_false : (b : Bool) → (b && false) ≡ false
 and_false true = refl
 and_false false = refl
 
