@@ -7,7 +7,9 @@ pub mod Loops
 pub mod Powers
 pub mod FoundTerms
 pub mod Refusals
+pub mod Sames
 pub mod SumValues
+pub mod Texts
 pub mod Types
 pub mod UnitFactors
 pub mod UnitMaps

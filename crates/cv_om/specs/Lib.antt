@@ -5,6 +5,7 @@ pub mod Conversion
 pub mod Numeric
 pub mod Parsed
 pub mod Refusal
+pub mod Same
 pub mod SumValue
 pub mod Text
 pub mod UnitMap

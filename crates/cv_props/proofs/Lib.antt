@@ -5,6 +5,7 @@ mod Items
 mod Split
 mod Said
 mod Naming
+mod Places
 mod Registering
 mod Syntaxes
 mod Universal

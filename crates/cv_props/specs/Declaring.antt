@@ -1,5 +1,5 @@
 -- What an element's declarations keep.
-use Rattle.std.specs.Prelude.{◌≡◌, true, not, ◌&&◌, if◌then◌else◌, Bool, false, Option, Some, None}
+use Rattle.std.specs.Prelude.{ℕ, ◌≡◌, true, not, ◌&&◌, slice_get, if◌then◌else◌, Bool, false, Option, Some, None}
 use Rattle.indexmap.specs.IndexMap.{insert_entry}
 use Rattle.cv_props.specs.declared.decls.Decl.{Decl}
 use Rattle.cv_valuation.specs.declared.key.Key.{Key}
@@ -14,6 +14,10 @@ MayDeclare key declaration = (is_key key ≡ true) × (may_be_value key declarat
 
 abbrev pub IsDeclaredEntry : Key × Decl → Type 0
 IsDeclaredEntry (key, declaration) = MayDeclare key declaration
+
+-- a declaration of the key stands at this place
+abbrev pub IsPlaceOf : Declarations → Key → ℕ → Type 0
+IsPlaceOf declarations key place = (declaration : Decl) × (slice_get declarations place ≡ Some (key, declaration))
 
 abbrev pub is_important : Option Decl → Bool
 is_important None = false

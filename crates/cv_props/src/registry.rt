@@ -60,6 +60,7 @@ impl Registry {
         ensures entries { IfOk result (λ sheet. (name : List ℕ) → entry_of sheet.0 name ≡ registered (viewport width height) (rules tokens.now) name) }
         ensures order { IfOk result (λ sheet. keys_of sheet.0 ≡ registered_names (viewport width height) (rules tokens.now)) }
         ensures notes { IfOk result (λ sheet. sheet.1.items ≡ notes_on_rules (viewport width height) (rules tokens.now)) }
+        ensures valid { IfOk result (λ sheet. AreEntries sheet.0) }
     {
         let all = rules(alloc, tokens)?;
         of_rules(alloc, &viewport(width, height), &all)
@@ -126,6 +127,7 @@ fn of_rules(alloc: Global, x: &Context, all: &[Rule]) -> Result<(Registry, Vec<N
     ensures entries { IfOk result (λ sheet. (name : List ℕ) → entry_of sheet.0 name ≡ registered x.now all.now name) }
     ensures order { IfOk result (λ sheet. keys_of sheet.0 ≡ registered_names x.now all.now) }
     ensures notes { IfOk result (λ sheet. sheet.1.items ≡ notes_on_rules x.now all.now) }
+    ensures valid { IfOk result (λ sheet. AreEntries sheet.0) }
 {
     let mut entries = IndexMap::new(alloc);
     let mut notes = Vec::new(alloc);

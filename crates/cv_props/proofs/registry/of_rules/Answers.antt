@@ -1,7 +1,8 @@
 use Rattle.std.proofs.Common.{◌≡◌, ◌∙◌, ◌+◌, ◌++◌, ◌∷◌, [], ℕ, List, length, take, ap, sym, subst, arith}
 use Rattle.std.specs.Map.{keys_of}
 use Rattle.std.proofs.lemmas.List.{take_more, length-take-le}
-use Rattle.cv_props.specs.Registered.{entry_of}
+use Rattle.cv_props.specs.Registered.{IsRegistered, entry_of}
+use Rattle.cv_props.proofs.Naming.{lookup_name}
 use Rattle.cv_props.specs.Registration.{registration}
 use Rattle.cv_props.specs.Sheets.{ignored, notes_on_rules, registered, registered_names, with_registration}
 use Rattle.cv_props.proofs.Numbered.{notes_on_rules-push}
@@ -28,3 +29,6 @@ loop-number-preserved c =
           ∙ sym (ap (notes_on_rules x) next ∙ notes_on_rules-push x (take number all) rule
           ∙ ap (λ n. notes_on_rules x (take number all) ++ ignored n (registration x rule)) count);
     }
+
+pub returns-clause-valid : goal.returns-clause-valid
+returns-clause-valid c name entry found = lookup_name IsRegistered c.loop-number.entries.entries name entry c.loop-number.invariant.kept found
