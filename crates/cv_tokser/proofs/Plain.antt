@@ -1,13 +1,14 @@
 -- Names that are written as they stand.
-use Rattle.std.proofs.Common.{◌≡◌, ℕ, ◌<◌, suc, zero, List, [], ◌∷◌, ◌++◌, refl, ap₂, arith, lit<}
-use Rattle.std.specs.Prelude.{Bool, true, false, not, ◌==◌, ◌&&◌, IsAscii}
+use Rattle.std.proofs.Common.{◌≡◌, ℕ, ◌<◌, suc, zero, List, [], ◌∷◌, ◌++◌, refl, sym, ◌∙◌, ap, ap₂, arith, lit<}
+use Rattle.std.specs.Prelude.{Bool, true, false, not, ◌==◌, ◌&&◌, ◌||◌, IsAscii}
 use Rattle.std.specs.List.{list_all}
 use Rattle.std.specs.Char.{is_ascii_alphabetic, is_ascii_digit}
 use Rattle.std.proofs.lemmas.Bool.Decides.{nat_tests}
-use Rattle.cv_spec_text.specs.Characters.{hyphen, is_ident_code_point}
+use Rattle.std.proofs.lemmas.Bool.{eqb-true}
+use Rattle.cv_spec_text.specs.Characters.{hyphen, is_ident_code_point, begins_by}
 use Rattle.cv_spec_text.specs.Numbers.{is_exponent_sign}
 use Rattle.cv_spec_text.specs.Printing.{is_control, name_code_point, name_rest, with_no_digit_first, identifier, unit}
-use Rattle.cv_tokser.specs.Plain.{is_plain, is_plain_byte, is_plain_first}
+use Rattle.cv_tokser.specs.Plain.{begins_hyphens, is_plain, is_plain_byte, is_plain_first}
 
 both : (a b : Bool) → (a && b) ≡ true → (a ≡ true) × (b ≡ true)
 both true b is = (refl, is)
@@ -61,10 +62,9 @@ pub record IsItself (bytes : List ℕ) : Type 0 where
   pub identifier_is : identifier bytes ≡ bytes
   pub unit_is : unit bytes ≡ bytes
 
-pub itself : (bytes : List ℕ) → is_plain bytes ≡ true → IsItself bytes
-itself [] is = absurd cc
-itself (b ∷ rest) is =
-    let (first, all) = both (is_plain_first b) (list_all is_plain_byte (b ∷ rest)) is in
+by_letter : (bytes : List ℕ) → begins_by is_plain_first bytes ≡ true → list_all is_plain_byte bytes ≡ true → IsItself bytes
+by_letter [] first all = absurd cc
+by_letter (b ∷ rest) first all =
     let (letter, other) = both (is_ascii_alphabetic b) (not (is_exponent_sign b)) first in
     let plain = not_false (is_exponent_sign b) other in
     let same = identifier_itself b rest letter all in
@@ -73,3 +73,30 @@ itself (b ∷ rest) is =
       identifier_is = same;
       unit_is = rw plain same;
     }
+
+hyphens_itself : (rest : List ℕ) → list_all is_plain_byte rest ≡ true → identifier (hyphen ∷ hyphen ∷ rest) ≡ hyphen ∷ hyphen ∷ rest
+unfolding identifier
+hyphens_itself rest all = ap₂ (λ (first more : List ℕ). hyphen ∷ (first ++ more)) (byte_itself hyphen refl) (rest_itself rest all)
+
+by_hyphens : (bytes : List ℕ) → begins_hyphens bytes ≡ true → list_all is_plain_byte bytes ≡ true → IsItself bytes
+by_hyphens [] two all = absurd cc
+by_hyphens (b ∷ []) two all = absurd cc
+by_hyphens (b ∷ c ∷ rest) two all =
+    let (first, second) = both (b == hyphen) (c == hyphen) two in
+    let b_is : b ≡ hyphen = eqb-true b hyphen first in
+    let c_is : c ≡ hyphen = eqb-true c hyphen second in
+    let later = (both (is_plain_byte c) (list_all is_plain_byte rest) (both (is_plain_byte b) (list_all is_plain_byte (c ∷ rest)) all).1).1 in
+    let same : identifier (b ∷ c ∷ rest) ≡ b ∷ c ∷ rest = rw (b_is, c_is) (hyphens_itself rest later) in
+    record {
+      ascii = all_ascii (b ∷ c ∷ rest) all;
+      identifier_is = same;
+      unit_is = ap (λ d. unit (d ∷ c ∷ rest)) b_is ∙ ap (λ d. identifier (d ∷ c ∷ rest)) (sym b_is) ∙ same;
+    }
+
+by_front : (bytes : List ℕ) (letter : Bool) → begins_by is_plain_first bytes ≡ letter → (letter || begins_hyphens bytes) ≡ true → list_all is_plain_byte bytes ≡ true → IsItself bytes
+by_front bytes true is front all = by_letter bytes is all
+by_front bytes false is front all = by_hyphens bytes front all
+
+pub itself : (bytes : List ℕ) → is_plain bytes ≡ true → IsItself bytes
+itself bytes is =
+    let (front, all) = both (begins_by is_plain_first bytes || begins_hyphens bytes) (list_all is_plain_byte bytes) is in by_front bytes (begins_by is_plain_first bytes) refl front all
