@@ -1,12 +1,11 @@
 -- What is read as a math function has a type.
-use Rattle.std.specs.Prelude.{ℕ, true, List, Option, Some, None, Result, Ok, Err}
+use Rattle.std.specs.Prelude.{ℕ, true, List, Option, Some, None, Ok}
 use Rattle.std.proofs.Common.{◌≡◌, refl, sym, ◌∙◌, ap}
 use Rattle.cv_spec_text.specs.declared.token.Token.{Token}
 use Rattle.cv_calc.specs.declared.unit.NumType.{NumType}
 use Rattle.cv_calc.specs.declared.calc.Calc.{Calc}
 use Rattle.cv_calc.specs.Types.{type_of}
 use Rattle.cv_calc.specs.Linear.{has_type}
-use Rattle.cv_calcread.specs.declared.error.CalcErr.{CalcErr}
 use Rattle.cv_calcread.specs.declared.figure.Mark.{Mark}
 use Rattle.cv_calcread.specs.declared.figure.Mark.TheVariants.{Far, Null}
 use Rattle.cv_calcread.specs.Literals.{exact_number}

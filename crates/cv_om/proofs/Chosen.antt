@@ -1,5 +1,5 @@
 -- The least or the greatest of some rows.
-use Rattle.std.specs.Prelude.{List, [], ◌∷◌, fold, Result, Ok, Err}
+use Rattle.std.specs.Prelude.{List, ◌∷◌, fold}
 use Rattle.std.proofs.Common.{◌≡◌, refl, sym, ◌∙◌, ap}
 use Rattle.cv_spec_ratio.specs.Ratio.{Ratio}
 use Rattle.cv_om.specs.declared.error.OmErr.{OmErr}

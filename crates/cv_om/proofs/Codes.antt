@@ -1,5 +1,5 @@
 -- Equal unit maps have equal codes.
-use Rattle.std.specs.Prelude.{Bool, true, false, ◌&&◌, ℤ, pos, List, [], ◌∷◌, slice_get, Option, Some, None}
+use Rattle.std.specs.Prelude.{Bool, true, false, ◌&&◌, pos, [], ◌∷◌, slice_get, Some}
 use lib.Pointwise.{pointwise}
 use Rattle.std.specs.Ordering.{int_eq}
 use Rattle.std.proofs.Common.{◌≡◌, ℕ, refl, sym, ◌∙◌, ap, ap₂}
@@ -7,8 +7,8 @@ use Rattle.std.proofs.lemmas.Bool.Decides.{Decides-int_eq}
 use Rattle.cv_calc.specs.declared.unit.Unit as units
 use Rattle.cv_calc.specs.declared.unit.Unit.TheVariants.{Number}
 use Rattle.cv_calc.specs.Unit.{same_unit, same_unit-true}
-use Rattle.cv_om.specs.UnitMap.{Powers, all_units, same_power, same_powers}
-use Rattle.cv_om.specs.Coded.{unit_number, entry_code, map_code}
+use Rattle.cv_om.specs.UnitMap.{Powers, all_units, same_powers}
+use Rattle.cv_om.specs.Coded.{unit_number, map_code}
 
 back : (u : units.Unit) → slice_get all_units (unit_number u) ≡ Some u
 back Number = refl

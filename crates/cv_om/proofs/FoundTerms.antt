@@ -1,9 +1,9 @@
 -- Items that are found by the codes of their unit maps.
-use Rattle.std.specs.Prelude.{Bool, true, false, ℤ, List, [], ◌∷◌, map, Option, Some, None, Result, Ok, Err, if◌then◌else◌}
+use Rattle.std.specs.Prelude.{Bool, true, false, ℤ, List, [], ◌∷◌, map, Option, Some, Result, Ok, Err, if◌then◌else◌}
 use lib.Pointwise.{pointwise}
 use Rattle.std.specs.Ordering.{int_eq}
 use Rattle.std.specs.Map.{lookup}
-use Rattle.std.proofs.Common.{◌≡◌, refl, sym, ◌∙◌, ap, ap₂}
+use Rattle.std.proofs.Common.{◌≡◌, sym, ◌∙◌, ap, ap₂}
 use Rattle.indexmap.specs.IndexMap.{insert_entry}
 use Rattle.cv_spec_ratio.specs.Ratio.{Ratio, add}
 use Rattle.cv_frac.specs.Bounded.{bounded}

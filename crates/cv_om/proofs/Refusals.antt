@@ -1,7 +1,7 @@
 -- Refusals, one after the other.
 use Rattle.std.specs.Prelude.{List, [], ◌∷◌, ◌++◌, length, map, fold, Result, Ok, Err}
 use Rattle.std.specs.List.{flat_map}
-use Rattle.std.proofs.Common.{◌≡◌, ℕ, ◌+◌, ◌<◌, ◌≤◌, get_or, take, drop, refl, sym, ◌∙◌, ap, append-nil}
+use Rattle.std.proofs.Common.{◌≡◌, ℕ, ◌+◌, ◌<◌, get_or, take, drop, refl, sym, ◌∙◌, ap, append-nil}
 use Rattle.std.proofs.lemmas.Grind.{flat_map-append}
 use Rattle.std.proofs.lemmas.List.{map-append}
 use Rattle.cv_om.specs.declared.error.OmErr.{OmErr}

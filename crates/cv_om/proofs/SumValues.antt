@@ -1,5 +1,5 @@
 -- The sum value of each kind of calculation.
-use Rattle.std.specs.Prelude.{List, map, Result, Err}
+use Rattle.std.specs.Prelude.{List, map, Err}
 use Rattle.std.proofs.Common.{◌≡◌, refl}
 use Rattle.cv_spec_ratio.specs.Ratio.{Ratio}
 use Rattle.cv_spec_ratio.specs.Order.{lesser, greater}

@@ -14,7 +14,6 @@ use Rattle.cv_om.specs.declared.place.Place.TheVariants.{Operand, Whole, Added, 
 use Rattle.cv_om.specs.Text.{Written, placed, number_placed, negative_front, negative_back, inverse_front, inverse_back, call_front, row_tokens, line_tokens, argument_tokens, written_step, written}
 use Rattle.cv_om.proofs.Loops.{front_at}
 
-
 pub written-Num : (v : Ratio) (u : units.Unit) (place : Place) → written (Num v u) place ≡ number_placed place v u
 unfolding written
 written-Num v u place = ap (λ (w : Written). w place) (fold-Num written_step v u)

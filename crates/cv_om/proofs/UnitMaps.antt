@@ -1,14 +1,12 @@
 -- Unit maps, unit by unit.
-use Rattle.std.specs.Prelude.{Bool, true, false, ◌&&◌, ℤ, pos, neg_ℤ, List, [], ◌∷◌, ◌++◌, length, map, Option, Some, None, option_map, Result, Ok, Err, if◌then◌else◌}
+use Rattle.std.specs.Prelude.{Bool, true, false, ◌&&◌, ℤ, pos, List, [], ◌∷◌, ◌++◌, length, map, Option, Some, None, option_map, Ok, Err, if◌then◌else◌}
 use Rattle.std.specs.List.{list_all}
-use Rattle.std.specs.Ordering.{int_eq}
 use Rattle.std.proofs.Common.{◌≡◌, ℕ, ◌+◌, ◌<◌, ◌≤◌, get_or, take, drop, refl, sym, ◌∙◌, ap, ap₂, append-nil}
 use Rattle.std.proofs.lemmas.List.{drop_all}
 use Rattle.std.proofs.lemmas.List.Folds.{list_all-append}
 use Rattle.cv_calc.specs.declared.unit.Unit.{Unit}
 use Rattle.cv_calc.specs.Types.{power_fits, power_of}
 use Rattle.cv_calc.specs.Unit.{same_unit}
-use Rattle.cv_om.specs.declared.error.OmErr.{OmErr}
 use Rattle.cv_om.specs.declared.error.OmErr.TheVariants.{Range}
 use Rattle.cv_om.specs.UnitMap.{Powers, all_units, power_in, entry, powers_listed, power_sum, product_powers, negative_entry, all_entries, within_bounds, inverse_powers}
 use Rattle.cv_om.proofs.Loops.{front_at, taken_at, split_at, flat_next}
@@ -67,9 +65,10 @@ module _ (a b : Powers) (us : List Unit) (i : ℕ) (d u : Unit) where
 
   pub listed_one : (ps qs : Powers) (p : ℤ) → i < length us → u ≡ get_or us i d → power_of (power_sum a b u) ≡ Some p → qs ≡ ps ++ entry u p → Listed ps i → Listed qs (i + 1)
   listed_one ps qs p h is e f k =
-      let found = found_power (power_fits (power_sum a b u)) (power_sum a b u) p e in
-      (all_next (λ u. power_fits (power_sum a b u)) us i d u h is k.0 found.0,
-       f ∙ ap₂ (λ xs z. xs ++ entry u z) k.1 (sym found.1) ∙ listed_next (power_sum a b) us i d u h is)
+      let found = found_power (power_fits (power_sum a b u)) (power_sum a b u) p e in (
+        all_next (λ u. power_fits (power_sum a b u)) us i d u h is k.0 found.0,
+        f ∙ ap₂ (λ xs z. xs ++ entry u z) k.1 (sym found.1) ∙ listed_next (power_sum a b) us i d u h is,
+      )
 
   pub refused_one : i < length us → u ≡ get_or us i d → None ≡ power_of (power_sum a b u) → list_all (λ u. power_fits (power_sum a b u)) us ≡ false
   refused_one h is e = all_fails (λ u. power_fits (power_sum a b u)) us i d u h is (not_found (power_fits (power_sum a b u)) (power_sum a b u) e)

@@ -4,7 +4,6 @@ use Rattle.std.specs.Prelude.{ℕ, List, [], ◌∷◌, encode_utf8_all, Result,
 use Rattle.cv_spec_text.specs.declared.token.Token.{Token}
 use Rattle.cv_spec_text.specs.declared.token.Token.TheVariants.{Number, Percentage, Dimension}
 use Rattle.cv_spec_text.specs.Tokens.{tokens}
-use Rattle.cv_spec_ratio.specs.Ratio.{Ratio}
 use Rattle.cv_frac.specs.Literal.{literal_of}
 use Rattle.cv_calc.specs.declared.unit.Unit.{Unit}
 use Rattle.cv_calc.specs.declared.unit.Unit.TheVariants as unit

@@ -1,6 +1,6 @@
 -- Whether two calculations are the same tree, with the same units and values (CSS Typed OM 1, "Common Numeric Operations, and the
 -- CSSNumericValue Superclass": `equals()`).
-use Rattle.std.specs.Prelude.{Bool, true, false, ◌&&◌, List, [], ◌∷◌, map}
+use Rattle.std.specs.Prelude.{Bool, true, false, ◌&&◌, List, [], ◌∷◌}
 use Rattle.std.specs.Ordering.{is_eq}
 use Rattle.cv_spec_ratio.specs.Ratio.{Ratio}
 use Rattle.cv_spec_ratio.specs.Order.{ratio_cmp}

@@ -11,7 +11,7 @@ use Rattle.cv_calc.specs.declared.calc.Calc.{Calc}
 use Rattle.cv_calc.specs.declared.calc.Calc.TheOpen.{Calc-F, Num, Sum, Product, Negate, Invert, Min, Max, Clamp}
 use Rattle.cv_calc.specs.declared.calc.Calc.TheFolds.{fold-Calc}
 use Rattle.cv_om.specs.declared.error.OmErr.{OmErr}
-use Rattle.cv_om.specs.declared.error.OmErr.TheVariants.{BadType, RangeError, Range}
+use Rattle.cv_om.specs.declared.error.OmErr.TheVariants.{BadType, RangeError}
 use Rattle.cv_om.specs.declared.item.SumItem.{SumItem}
 use Rattle.cv_om.specs.Refusal.{and_then, answer_map, all_of, in_range}
 use Rattle.cv_om.specs.UnitMap.{Powers, product_powers, inverse_powers, same_powers, sum_factor, unit_powers}

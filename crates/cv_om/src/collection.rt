@@ -51,12 +51,7 @@ fn placed(alloc: Global, units: &[Unit], row: &[SumItem]) -> Result<Items<(usize
 }
 
 /// A sum so far, and one more value, which is added where it is at the place.
-fn collected_value(
-    place: usize,
-    unit: Unit,
-    sum: Frac,
-    value: (usize, Frac),
-) -> Result<Frac, OmErr>
+fn collected_value(place: usize, unit: Unit, sum: Frac, value: (usize, Frac)) -> Result<Frac, OmErr>
     ensures { result ≡ collected_next place unit (Ok sum) value }
 {
     if value.0 != place {

@@ -56,13 +56,7 @@ fn item_unit(units: &[(Unit, i64)]) -> Option<Unit>
 {
     match units {
         [] => Some(Unit::Number),
-        [(unit, power)] => {
-            if *power == 1 {
-                Some(*unit)
-            } else {
-                None
-            }
-        }
+        [(unit, power)] => { if *power == 1 { Some(*unit) } else { None } }
         _ => None,
     }
 }
@@ -71,7 +65,8 @@ fn item_unit(units: &[(Unit, i64)]) -> Option<Unit>
 fn all_have_units(row: &[SumItem]) -> bool
     ensures { result ≡ list_all (λ s. has_unit_of (item_unit_of s.units)) row.now }
 {
-    row.iter().all(|item| item_unit(item.units.as_slice()).is_some())
+    row.iter()
+        .all(|item| item_unit(item.units.as_slice()).is_some())
 }
 
 /// Whether an item is of a unit.
@@ -85,11 +80,7 @@ fn is_of(item: &SumItem, unit: Unit) -> bool
 }
 
 /// Adds the items of a unit, in their order.
-fn push_numbers(
-    numbers: &mut Items<Calc>,
-    row: &[SumItem],
-    unit: Unit,
-) -> Result<(), AllocError>
+fn push_numbers(numbers: &mut Items<Calc>, row: &[SumItem], unit: Unit) -> Result<(), AllocError>
     ensures { OnOk result (numbers.new ≡ numbers.old ++ numbers_of_unit row.now unit) }
 {
     for item in row {

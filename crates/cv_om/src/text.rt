@@ -105,11 +105,7 @@ fn push_sign(
 }
 
 /// Adds what stands before the inner of a negative.
-fn push_negative_front(
-    alloc: Global,
-    out: &mut Vec<Token>,
-    place: Place,
-) -> Result<(), AllocError>
+fn push_negative_front(alloc: Global, out: &mut Vec<Token>, place: Place) -> Result<(), AllocError>
     ensures { OnOk result (out.new.items ≡ out.old.items ++ negative_front place) }
 {
     match place {
@@ -133,11 +129,7 @@ fn push_negative_back(out: &mut Vec<Token>, place: Place) -> Result<(), AllocErr
 }
 
 /// Adds what stands before the inner of an inverse.
-fn push_inverse_front(
-    alloc: Global,
-    out: &mut Vec<Token>,
-    place: Place,
-) -> Result<(), AllocError>
+fn push_inverse_front(alloc: Global, out: &mut Vec<Token>, place: Place) -> Result<(), AllocError>
     ensures { OnOk result (out.new.items ≡ out.old.items ++ inverse_front place) }
 {
     match place {
@@ -175,25 +167,32 @@ fn push_call_front(
 /// Adds a calculation at a place.
 #[cycle(write)]
 #[tactic(auto, using(crate::proofs::Texts::written_equations))]
-fn push(
-    alloc: Global,
-    out: &mut Vec<Token>,
-    place: Place,
-    c: &Calc,
-) -> Result<(), AllocError>
+fn push(alloc: Global, out: &mut Vec<Token>, place: Place, c: &Calc) -> Result<(), AllocError>
     ensures { OnOk result (out.new.items ≡ out.old.items ++ written c.now place) }
 {
     match c {
         Calc::Num(value, unit) => push_number_placed(alloc, out, place, *value, *unit),
         Calc::Sum(children) => {
             push_front(out, place)?;
-            push_row(alloc, out, Place::Operand, Place::Added, children.as_slice())?;
+            push_row(
+                alloc,
+                out,
+                Place::Operand,
+                Place::Added,
+                children.as_slice(),
+            )?;
             push_back(out, place)?;
             Ok(())
         }
         Calc::Product(children) => {
             push_front(out, place)?;
-            push_row(alloc, out, Place::Operand, Place::Multiplied, children.as_slice())?;
+            push_row(
+                alloc,
+                out,
+                Place::Operand,
+                Place::Multiplied,
+                children.as_slice(),
+            )?;
             push_back(out, place)?;
             Ok(())
         }
@@ -211,13 +210,25 @@ fn push(
         }
         Calc::Min(children) => {
             push_call_front(alloc, out, place, b"min")?;
-            push_row(alloc, out, Place::Whole, Place::Argument, children.as_slice())?;
+            push_row(
+                alloc,
+                out,
+                Place::Whole,
+                Place::Argument,
+                children.as_slice(),
+            )?;
             push_closing(out, true)?;
             Ok(())
         }
         Calc::Max(children) => {
             push_call_front(alloc, out, place, b"max")?;
-            push_row(alloc, out, Place::Whole, Place::Argument, children.as_slice())?;
+            push_row(
+                alloc,
+                out,
+                Place::Whole,
+                Place::Argument,
+                children.as_slice(),
+            )?;
             push_closing(out, true)?;
             Ok(())
         }

@@ -95,12 +95,7 @@ fn bottom(alloc: Global, v: Frac) -> Result<Token, AllocError>
 }
 
 /// Adds the quotient of the two numbers of a number.
-fn push_quotient(
-    alloc: Global,
-    out: &mut Vec<Token>,
-    v: Frac,
-    unit: Unit,
-) -> Result<(), AllocError>
+fn push_quotient(alloc: Global, out: &mut Vec<Token>, v: Frac, unit: Unit) -> Result<(), AllocError>
     ensures { OnOk result (out.new.items ≡ out.old.items ++ quotient_tokens v unit) }
 {
     let first = top(alloc, v, unit)?;

@@ -1,5 +1,5 @@
 use Rattle.std.specs.Prelude.{Ok}
-use Rattle.std.proofs.Common.{refl, sym, ◌∙◌, ap}
+use Rattle.std.proofs.Common.{refl, ap}
 use Rattle.cv_om.specs.Choice.{choice_of}
 use Rattle.cv_om.specs.SumValue.{chosen_next}
 use Rattle.cv_om.proofs.Refusals.{fold_refused_at}

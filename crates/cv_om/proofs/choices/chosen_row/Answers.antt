@@ -1,4 +1,3 @@
-use Rattle.std.proofs.Common.{refl, sym, ◌∙◌, ap}
 use Rattle.cv_om.specs.Choice.{choice_of}
 use Rattle.cv_om.proofs.Chosen.{chosen_refused}
 use Rattle.cv_om.proofs.choices.chosen_row.Goals as goal

@@ -1,4 +1,4 @@
-use Rattle.std.proofs.Common.{sym, ◌∙◌, ap}
+use Rattle.std.proofs.Common.{sym, ◌∙◌}
 use Rattle.cv_om.proofs.Collections.{collected_has_type}
 use Rattle.cv_om.proofs.collection.collected_sum.Goals as goal
 

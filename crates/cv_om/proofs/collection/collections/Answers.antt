@@ -1,7 +1,6 @@
-use Rattle.std.specs.Prelude.{[], ◌∷◌, ◌++◌, map, Ok}
+use Rattle.std.specs.Prelude.{map, Ok}
 use Rattle.std.specs.List.{enumerate_from}
-use Rattle.std.proofs.Common.{rules, ◌<◌, ◌≤◌, ℕ, get_or, take, refl, sym, ◌∙◌, ap, subst}
-use Rattle.std.proofs.lemmas.List.{take_all}
+use Rattle.std.proofs.Common.{get_or, refl, sym, ◌∙◌, ap}
 use Rattle.cv_calc.specs.declared.unit.Unit.TheVariants.{Number}
 use Rattle.cv_om.specs.Refusal.{all_of}
 use Rattle.cv_om.specs.Conversion.{collected}

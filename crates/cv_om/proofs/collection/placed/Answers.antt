@@ -1,5 +1,5 @@
-use Rattle.std.specs.Prelude.{[], ◌∷◌, ◌++◌, Ok}
-use Rattle.std.proofs.Common.{rules, refl, sym, ◌∙◌, ap}
+use Rattle.std.specs.Prelude.{Ok}
+use Rattle.std.proofs.Common.{sym, ◌∙◌, ap}
 use Rattle.cv_om.specs.Conversion.{placed_item}
 use Rattle.cv_om.proofs.Refusals.{all_none, next_answer, refused_answer, refusal_is}
 use Rattle.cv_om.proofs.collection.placed.Goals as goal

@@ -1,6 +1,6 @@
-use Rattle.std.specs.Prelude.{Bool, true, false, ◌==◌, Ok, Err, Result, if◌then◌else◌}
-use Rattle.std.proofs.Common.{◌≡◌, ℕ, refl, sym, ◌∙◌, ap}
-use Rattle.cv_spec_ratio.specs.Ratio.{Ratio, zero_ratio}
+use Rattle.std.specs.Prelude.{Ok}
+use Rattle.std.proofs.Common.{sym, ◌∙◌}
+use Rattle.cv_spec_ratio.specs.Ratio.{zero_ratio}
 use Rattle.cv_om.specs.Conversion.{collected_next}
 use Rattle.cv_om.proofs.Collections.{collected_refused}
 use Rattle.cv_om.proofs.Refusals.{fold_refused_is}

@@ -1,5 +1,5 @@
 use Rattle.std.specs.Prelude.{map, ◌&&◌}
-use Rattle.std.proofs.Common.{◌≡◌, ℕ, ◌<◌, ◌≤◌, refl, sym, ◌∙◌, ap, ap₂, subst}
+use Rattle.std.proofs.Common.{◌≡◌, ℕ, ◌<◌, ◌≤◌, sym, ◌∙◌, ap₂, subst}
 use Rattle.cv_om.specs.Same.{same, same_list}
 use Rattle.cv_om.proofs.Sames.{num_pair, sum_pair, product_pair, negate_pair, invert_pair, min_pair, max_pair, clamp_pair, pair_differs, pair_same, all_same, lengths_differ}
 use Rattle.cv_om.proofs.equality.+same.Goals as goal

@@ -1,4 +1,4 @@
-use Rattle.std.specs.Prelude.{map, length}
+use Rattle.std.specs.Prelude.{map}
 use Rattle.std.proofs.Common.{◌≡◌, drop}
 use Rattle.cv_om.specs.Same.{same, same_list}
 use Rattle.cv_om.proofs.equality.+same.Given as goal

@@ -1,4 +1,4 @@
-use Rattle.std.proofs.Common.{refl, sym, ◌∙◌, ap, ◌++◌, get_or}
+use Rattle.std.proofs.Common.{refl, ◌∙◌, ap, ◌++◌, get_or}
 use Rattle.cv_calc.specs.declared.unit.Unit.TheVariants.{Number}
 use Rattle.cv_om.specs.Conversion.{numbers_of, units_by_name}
 use Rattle.cv_om.proofs.Loops.{flat_next}

@@ -1,5 +1,5 @@
 use Rattle.std.specs.Prelude.{map, Ok}
-use Rattle.std.proofs.Common.{rules, refl, sym, ◌∙◌, ap}
+use Rattle.std.proofs.Common.{sym, ◌∙◌, ap}
 use Rattle.cv_om.specs.SumValue.{item_product}
 use Rattle.cv_om.proofs.Refusals.{all_none, next_answers, refused_among}
 use Rattle.cv_om.proofs.products.times.Goals as goal

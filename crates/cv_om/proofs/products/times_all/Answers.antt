@@ -1,5 +1,5 @@
 use Rattle.std.specs.Prelude.{Ok}
-use Rattle.std.proofs.Common.{refl, sym, ◌∙◌, ap, ap₂}
+use Rattle.std.proofs.Common.{refl, ap₂}
 use Rattle.cv_om.specs.Refusal.{all_of}
 use Rattle.cv_om.specs.SumValue.{times_row, item_products}
 use Rattle.cv_om.proofs.Refusals.{fold_refused_at}

@@ -1,5 +1,5 @@
-use Rattle.std.specs.Prelude.{[], ◌∷◌, ◌++◌, Ok}
-use Rattle.std.proofs.Common.{refl, sym, ◌∙◌, ap}
+use Rattle.std.specs.Prelude.{Ok}
+use Rattle.std.proofs.Common.{sym, ◌∙◌, ap}
 use Rattle.cv_om.specs.SumValue.{sum_value}
 use Rattle.cv_om.proofs.Refusals.{all_none, next_answer, refused_as}
 use Rattle.cv_om.proofs.sum_value.+sum_value.Goals as goal

@@ -1,5 +1,5 @@
 use Rattle.std.specs.Prelude.{Ok}
-use Rattle.std.proofs.Common.{refl, sym, ◌∙◌, ap}
+use Rattle.std.proofs.Common.{refl, ap}
 use Rattle.cv_om.specs.SumValue.{with_item, with_next}
 use Rattle.cv_om.proofs.Refusals.{fold_refused_at}
 use Rattle.cv_om.proofs.sum_value.add_row.Goals as goal

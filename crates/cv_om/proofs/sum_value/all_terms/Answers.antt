@@ -1,7 +1,7 @@
 use Rattle.std.specs.Prelude.{[], Ok}
-use Rattle.std.proofs.Common.{refl, sym, ◌∙◌, ap}
+use Rattle.std.proofs.Common.{ap}
 use Rattle.cv_om.specs.SumValue.{with_row}
-use Rattle.cv_om.proofs.Refusals.{fold_refused, fold_refused_at}
+use Rattle.cv_om.proofs.Refusals.{fold_refused_at}
 use Rattle.cv_om.proofs.SumValues.{row_refused}
 use Rattle.cv_om.proofs.sum_value.all_terms.Goals as goal
 

@@ -1,7 +1,7 @@
-use Rattle.std.specs.Prelude.{[], ◌∷◌, ◌++◌, map, codes}
-use Rattle.std.proofs.Common.{◌≡◌, refl, sym, ◌∙◌, ap}
+use Rattle.std.specs.Prelude.{◌++◌, map, codes}
+use Rattle.std.proofs.Common.{sym, ◌∙◌, ap}
 use Rattle.cv_simplify.specs.Text.{closing}
-use Rattle.cv_om.specs.declared.place.Place.TheVariants.{Operand, Whole, Added, Multiplied, Argument}
+use Rattle.cv_om.specs.declared.place.Place.TheVariants.{Operand, Added, Multiplied}
 use Rattle.cv_om.specs.Text.{placed, line_tokens, argument_tokens, negative_front, negative_back, inverse_front, inverse_back, call_front, written}
 use Rattle.cv_om.proofs.Texts.{three, clamped, row_next, row_done, three_same, written-Sum, written-Product, written-Negate, written-Invert, written-Min, written-Max, written-Clamp}
 use Rattle.cv_om.proofs.text.+write.Goals as goal
