@@ -101,3 +101,7 @@ evaluated_step (Clamp l m h) = clamped l m h
 
 unfoldable pub evaluated : Calc → Evaluated
 evaluated = fold-Calc Evaluated evaluated_step
+
+-- the divisors of a further part behind others
+abbrev pub with_marks : List Mark → Evaluated → List Mark
+with_marks marks e = marks ++ e.marks

@@ -6,7 +6,7 @@ ghost use Rattle.cv_calcread.specs.Answer as answers;
 ghost use Rattle.cv_calcread.specs.Grammar.{ReadsAs};
 ghost use Rattle.cv_calcread.specs.Literals.{exact_number};
 
-use crate::divisors::evaluate;
+use crate::divisors::add_marks;
 use crate::error::CalcErr;
 use crate::figure::Mark;
 use crate::places::{divisor_place, divisor_places, wide_place};
@@ -21,7 +21,8 @@ fn divided(alloc: Global, tokens: &[Token], c: Calc, kind: NumType) -> Result<Ca
     ensures ok { IfOk result (λ d. answers.divided tokens.now c kind ≡ Ok d) }
     ensures err { IfErr result (answers.IsRefusal (answers.divided tokens.now c kind)) }
 {
-    let marks = evaluate(alloc, &c)?.marks;
+    let mut marks = Vec::new(alloc);
+    add_marks(alloc, &c, &mut marks)?;
     let places = divisor_places(alloc, tokens)?;
     match divisor_place(Mark::Far, &marks, &places) {
         Some(place) => Err(CalcErr::Range {

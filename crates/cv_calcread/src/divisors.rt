@@ -1,6 +1,6 @@
 //! The divisors of a calculation.
 
-ghost use Rattle.std.specs.Prelude.{◌≡◌, IfOk, map, []};
+ghost use Rattle.std.specs.Prelude.{◌≡◌, ◌++◌, IfOk, fold, map, []};
 ghost use Rattle.std.specs.Option.{option_map};
 ghost use Rattle.cv_spec_ratio.specs.Ratio.{zero_ratio, one_ratio};
 ghost use Rattle.cv_calcread.specs.Figures as figures;
@@ -168,4 +168,65 @@ fn chosen(alloc: Global, joining: Joining, children: &[Calc]) -> Result<Evaluati
         None => Ok(without(alloc, Figure::Undefined)),
         Some(e) => Ok(e),
     }
+}
+
+/// What the divisors of a calculation are, behind others. Numbers are looked at below a division alone.
+#[cycle(marks)]
+#[tactic(auto, using(crate::proofs::Marks::marks))]
+pub fn add_marks(alloc: Global, c: &Calc, marks: &mut Vec<Mark>) -> Result<(), AllocError>
+    ensures { IfOk result (λ _. marks.new.items ≡ figures.with_marks marks.old.items (figures.evaluated c.now)) }
+{
+    match c {
+        Calc::Num(_, _) => Ok(()),
+        Calc::Sum(children) => {
+            add_all(alloc, children.as_slice(), marks)?;
+            Ok(())
+        }
+        Calc::Product(children) => {
+            add_all(alloc, children.as_slice(), marks)?;
+            Ok(())
+        }
+        Calc::Negate(child) => {
+            add_marks(alloc, child.get(), marks)?;
+            Ok(())
+        }
+        Calc::Invert(child) => {
+            add_divisor(evaluate(alloc, child.get())?, marks)?;
+            Ok(())
+        }
+        Calc::Min(children) => {
+            add_all(alloc, children.as_slice(), marks)?;
+            Ok(())
+        }
+        Calc::Max(children) => {
+            add_all(alloc, children.as_slice(), marks)?;
+            Ok(())
+        }
+        Calc::Clamp(low, middle, high) => {
+            add_marks(alloc, low.get(), marks)?;
+            add_marks(alloc, middle.get(), marks)?;
+            add_marks(alloc, high.get(), marks)?;
+            Ok(())
+        }
+    }
+}
+
+/// What the divisors of some calculations are, behind others.
+#[cycle(marks)]
+fn add_all(alloc: Global, children: &[Calc], marks: &mut Vec<Mark>) -> Result<(), AllocError>
+    ensures { IfOk result (λ _. marks.new.items ≡ fold figures.with_marks marks.old.items (map figures.evaluated children.now)) }
+{
+    for child in children {
+        add_marks(alloc, child, marks)?;
+    }
+    Ok(())
+}
+
+/// What a divisor is, and the divisors in it, behind others.
+fn add_divisor(divisor: Evaluation, marks: &mut Vec<Mark>) -> Result<(), AllocError>
+    ensures { IfOk result (λ _. marks.new.items ≡ figures.with_marks marks.old.items (figures.divided (figures.shown divisor))) }
+{
+    marks.push(mark_of(&divisor.figure))?;
+    marks.extend_from_slice(&divisor.marks)?;
+    Ok(())
 }

@@ -197,7 +197,7 @@ pub fn inverted(f: Figure) -> Result<Figure, AllocError>
             None => Ok(Figure::Undefined),
             Some(value) => Ok(Figure::Inside(value)),
         },
-        Figure::Outside(a) => match a.reciprocal()? {
+        Figure::Outside(a) => match a.reciprocal() {
             None => Ok(Figure::Undefined),
             Some(value) => Ok(Figure::Outside(value)),
         },

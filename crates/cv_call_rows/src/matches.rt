@@ -1,4 +1,5 @@
-// Texts by syntaxes: the text of the typed value, or why there is none.
+//! Texts by syntaxes: the text of the typed value, or why there is none.
+
 ghost use Rattle.std.specs.Prelude.{◌≡◌};
 
 use cv_calc::{Basis, Context};

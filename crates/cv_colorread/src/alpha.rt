@@ -1,4 +1,5 @@
-// Colours with an alpha or without one.
+//! Colours with an alpha or without one.
+
 ghost use Rattle.std.specs.Prelude.{◌≡◌};
 ghost use Rattle.cv_numeric.specs.declared.matched.Matched.{Matched};
 ghost use Rattle.cv_numeric.specs.Matched.{both};

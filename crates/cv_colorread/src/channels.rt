@@ -1,4 +1,5 @@
-// Red, green and blue as numbers.
+//! Red, green and blue as numbers.
+
 ghost use Rattle.std.specs.Prelude.{◌≡◌, ◌<◌, map, IfOk};
 ghost use Rattle.cv_colorread.specs.Channels as channels;
 

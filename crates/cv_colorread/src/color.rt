@@ -1,4 +1,5 @@
-// A list as a colour.
+//! A list as a colour.
+
 ghost use Rattle.std.specs.Prelude.{◌≡◌, IfOk};
 ghost use Rattle.cv_colorread.specs.Colors as colors;
 

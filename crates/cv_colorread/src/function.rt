@@ -1,4 +1,5 @@
-// Colour functions.
+//! Colour functions.
+
 ghost use Rattle.std.specs.Prelude.{◌≡◌, map, IfOk, IsSome, option_map};
 ghost use Rattle.cv_component.specs.Blocks.{opened_at};
 ghost use Rattle.cv_colorread.specs.Colors as colors;

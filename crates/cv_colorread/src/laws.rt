@@ -1,4 +1,5 @@
-// What no context changes, and what is read of a colour's text.
+//! What no context changes, and what is read of a colour's text.
+
 ghost use Rattle.cv_colorread.specs.Alike.{IsMismatchAlike};
 ghost use Rattle.cv_colorread.specs.ReadsBack.{ColorsReadBack};
 

@@ -3,6 +3,11 @@ pub mod Inside
 pub mod Reading
 pub mod Pieces
 pub mod ItemSteps
+pub mod Spelt
+pub mod Sharing
+pub mod TopLevels
+pub mod Closers
+pub mod Depths
 pub mod RuleSteps
 pub mod Splits
 pub mod Ends

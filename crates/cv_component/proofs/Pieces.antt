@@ -1,5 +1,5 @@
 -- One more piece of a run of pieces that each take something.
-use Rattle.std.proofs.Common.{◌≡◌, ℕ, ◌<◌, ◌≤◌, List, ◌++◌, length, drop, sym, ◌∙◌, ap, append_assoc, arith}
+use Rattle.std.proofs.Common.{◌≡◌, ℕ, ◌<◌, ◌≤◌, List, ◌++◌, length, drop, sym, ◌∙◌, ap, append_assoc}
 use Rattle.cv_spec_text.specs.Runs.{run_values}
 use Rattle.cv_spec_text.proofs.Runs.{run_values-more}
 

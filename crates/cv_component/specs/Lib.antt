@@ -4,6 +4,8 @@ pub mod Balance
 pub mod Few
 pub mod TopLevel
 pub mod Items
+pub mod Shared
+pub mod TopLevels
 pub mod Stops
 pub mod Rules
 pub mod Parts

@@ -106,7 +106,7 @@ pub fn comma_parts<'a>(alloc: Global, tokens: &'a [Token]) -> Result<Vec<&'a [To
 }
 
 /// Whether no bracket is open at the end of the list.
-fn is_closed(alloc: Global, tokens: &[Token]) -> Result<bool, AllocError>
+pub(crate) fn is_closed(alloc: Global, tokens: &[Token]) -> Result<bool, AllocError>
     ensures { IfOk result (λ closed. IsTrue closed ↔ (nesting_past [] tokens.now ≡ [])) }
 {
     let mut nesting = Nesting::new(alloc);

@@ -1,4 +1,5 @@
-// The top level of a list of tokens.
+//! The top level of a list of tokens.
+
 ghost use Rattle.std.specs.Prelude.{◌≡◌, ◌++◌, [], ◌≤◌, ◌-◌, length, take, drop, IfOk, IsTrue};
 ghost use Rattle.cv_component.specs.Nesting.{completed};
 ghost use Rattle.cv_component.specs.Stops.{stops};

@@ -9,7 +9,7 @@ use Rattle.cv_cycle.specs.Marks.{IsMarked, StandsIn, unmarked_count}
 use Rattle.cv_cycle.specs.State.{State, HasRoom, fresh, entered}
 use Rattle.cv_cycle.specs.Search.{IsWalk, IsTarget, IsSearch}
 use Rattle.cv_cycle.proofs.Marking.{IsMarked-below, IsMarked-set, IsMarked-set_is, unmarked_at, unmarked_count-set, unmarked_count-fresh, unmarked_count-none, none_marked-fresh}
-use Rattle.cv_cycle.proofs.Reached.{IsCyclic-below}
+use Rattle.cv_cycle.proofs.Along.{IsCyclic-below}
 use Rattle.cv_cycle.proofs.Components.{IsWalk-root}
 use Rattle.cv_cycle.proofs.Readings.{IsWalk-renamed, IsWalk-end, sum-reads}
 use Rattle.cv_cycle.proofs.Top.{count_small}

@@ -9,7 +9,7 @@ use Rattle.std.proofs.lemmas.Bool.{cases_eq, cases_lt}
 use Rattle.cv_spec_element.specs.Walks.{Walk, Reaches, IsCyclic}
 use Rattle.cv_cycle.specs.Search.{StandsFrom}
 use Rattle.cv_cycle.specs.Search as search
-use Rattle.cv_cycle.proofs.Reached.{Reaches-push}
+use Rattle.cv_cycle.proofs.Along.{Reaches-push}
 
 walk-append : (edge : ℕ → ℕ → Type 0) (p : ℕ) (via : List ℕ) (c : ℕ) (more : List ℕ) (q : ℕ) → Walk edge p via c → Walk edge c more q → Walk edge p (via ++ c ∷ more) q
 walk-append edge p [] c more q first second = (first, second)

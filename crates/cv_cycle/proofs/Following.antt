@@ -9,7 +9,7 @@ use Rattle.cv_cycle.specs.State.{State, entered, with_starts, asked, Meets, Foll
 use Rattle.cv_cycle.specs.Search.{IsWalk, IsTarget, IsSearch}
 use Rattle.cv_cycle.proofs.Marking.{IsMarked-below, IsMarked-set_cases, IsMarked-set_is, IsMarked-set, unmarked_at, unmarked_count-set}
 use Rattle.cv_cycle.proofs.Places.{StandsIn-push, Rises-fewer, Rises-push, Rises-upto}
-use Rattle.cv_cycle.proofs.Reached.{target_below}
+use Rattle.cv_cycle.proofs.Along.{target_below}
 use Rattle.cv_cycle.proofs.Components.{IsWalk-meet_closed, IsWalk-meet_open, IsWalk-enter}
 use Rattle.cv_cycle.proofs.Readings.{IsTarget-only, IsWalk-renamed}
 use Rattle.cv_cycle.proofs.Top.{on_stack_met, top, node, place, reads_now, reads_then, height_small, count_small, top_below, is_top, unread_then, few_then, reads_length, unfinished_then}

@@ -1,5 +1,5 @@
 pub mod Marking
-pub mod Reached
+pub mod Along
 pub mod Places
 pub mod Components
 pub mod Closing
@@ -10,3 +10,4 @@ pub mod Ordering
 pub mod Leaving
 pub mod Beginning
 pub mod Advancing
+pub mod Spreading

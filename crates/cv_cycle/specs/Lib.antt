@@ -1,3 +1,4 @@
 pub mod Marks
 pub mod State
 pub mod Search
+pub mod Spreading

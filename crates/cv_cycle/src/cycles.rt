@@ -1,3 +1,5 @@
+//! Which nodes of a graph stand on a cycle.
+
 ghost use Rattle.std.specs.Prelude.{◌≡◌, ℕ, ◌<◌, ◌≤◌, ◌+◌, ◌↔◌, length, slice_index, sum, IfOk, OnErr};
 ghost use Rattle.cv_graph.specs.Edges.{IsGraph, HasEdge, edge_count};
 ghost use Rattle.cv_spec_element.specs.Walks.{IsCyclic};

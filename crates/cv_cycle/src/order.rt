@@ -1,3 +1,5 @@
+//! An order along the edges of a graph.
+
 /// The nodes of a graph, in an order along its edges.
 #[derive(Drop)]
 pub struct Order {

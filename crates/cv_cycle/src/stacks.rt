@@ -1,3 +1,5 @@
+//! The stacks of the walk.
+
 ghost use Rattle.std.specs.Prelude.{ℕ, ◌<◌, ◌≤◌, ◌+◌, ◌-◌, ◌↔◌, ◌⊎◌, ◌≡◌, length, slice_index};
 ghost use Rattle.cv_cycle.specs.Marks.{IsMarked, StandsIn};
 ghost use Rattle.cv_cycle.specs.State.{Copies};

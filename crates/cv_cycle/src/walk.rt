@@ -1,3 +1,5 @@
+//! The one walk over a graph.
+
 use crate::order::Order;
 use crate::stacks::{copy_nodes, drop_above, mark_nodes, mark_several};
 use cv_graph::{Graph, OutOfMemory, Steps};

@@ -1,4 +1,5 @@
-// The commands of a session, as a document has them.
+//! The commands of a session, as a document has them.
+
 ghost use Rattle.std.specs.Prelude.{◌≡◌, codes, option_and_then, IfOk};
 ghost use Rattle.serde_json.specs.Find.{as_str, get};
 ghost use Rattle.serde_json.specs.View.{view};

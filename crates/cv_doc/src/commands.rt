@@ -1,4 +1,5 @@
-// The commands of a document.
+//! The commands of a document.
+
 ghost use Rattle.std.specs.Prelude.{◌≡◌, ◌≤◌, length, option_map, IfOk, string_bytes};
 ghost use Rattle.serde_json.specs.View.{items_view, view};
 ghost use Rattle.cv_doc.specs.Commands.{command_in, command_path, commands_in, commands_of};

@@ -1,4 +1,5 @@
-// The document of bytes.
+//! The document of bytes.
+
 ghost use Rattle.std.specs.Prelude.{IfOk, length};
 ghost use Rattle.serde_json.specs.View.{view};
 ghost use Rattle.cv_doc.specs.Kept.{IsSound, TextsAreWithin};

@@ -1,4 +1,5 @@
-// The elements of a document.
+//! The elements of a document.
+
 ghost use Rattle.std.specs.Prelude.{◌≡◌, ◌≤◌, length, option_map, option_and_then, is_some, IfOk, string_bytes};
 ghost use Rattle.serde_json.specs.Find.{as_null};
 ghost use Rattle.serde_json.specs.View.{items_view, view};

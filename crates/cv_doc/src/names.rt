@@ -1,4 +1,5 @@
-// The names of the ordinary properties.
+//! The names of the ordinary properties.
+
 ghost use Rattle.std.specs.Prelude.{◌≡◌, IsAscii};
 ghost use Rattle.std.specs.List.{All, list_any};
 ghost use Rattle.cv_doc.specs.PropertyNames.{is_property, same_word};

@@ -1,4 +1,5 @@
-// Why a document is refused.
+//! Why a document is refused.
+
 ghost use Rattle.std.specs.Prelude.{◌≡◌, IfOk};
 ghost use Rattle.cv_doc.specs.Refusals.{IsFieldOf};
 ghost use Rattle.cv_doc.specs.declared.refusal.DocErr.TheVariants.{Memory};

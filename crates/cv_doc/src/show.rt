@@ -1,4 +1,5 @@
-// The names that a document asks to be shown.
+//! The names that a document asks to be shown.
+
 ghost use Rattle.std.specs.Prelude.{◌≡◌, ◌≤◌, length, option_map, Some, IfOk, string_bytes};
 ghost use Rattle.serde_json.specs.View.{items_view, view};
 ghost use Rattle.cv_doc.specs.Members.{name_in, name_of, names_of, show_in, show_path};

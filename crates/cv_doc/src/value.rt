@@ -1,4 +1,5 @@
-// What is read of a JSON value.
+//! What is read of a JSON value.
+
 ghost use Rattle.std.specs.Prelude.{◌≡◌, IfOk, option_map, option_and_then};
 ghost use Rattle.serde_json.specs.Find.{as_str};
 ghost use Rattle.serde_json.specs.View.{view};

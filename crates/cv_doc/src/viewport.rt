@@ -1,4 +1,5 @@
-// The size of the viewport.
+//! The size of the viewport.
+
 ghost use Rattle.std.specs.Prelude.{option_map};
 ghost use Rattle.serde_json.specs.View.{view};
 ghost use Rattle.cv_doc.specs.Members.{viewport_in};

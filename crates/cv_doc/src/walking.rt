@@ -1,4 +1,5 @@
-// A walk over the elements.
+//! A walk over the elements.
+
 ghost use Rattle.std.specs.Prelude.{◌≤◌, ℕ, Option, Result, ⊤, vec_len};
 ghost use Rattle.cv_doc.specs.Walks.{AreReady, Reaches};
 

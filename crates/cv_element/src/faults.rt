@@ -1,7 +1,8 @@
-// The invalid properties by their names.
+//! The invalid properties by their names.
+
 ghost use Rattle.std.specs.Prelude.{◌≡◌, IfOk, map};
 ghost use Rattle.std.specs.List.Sorted.{IsPermutation};
-ghost use Rattle.cv_props.specs.Keys.{key_text};
+ghost use Rattle.cv_valuation.specs.Keys.{key_text};
 ghost use Rattle.cv_element.specs.Element.{IsByName};
 ghost use Rattle.cv_element.specs.FaultNames.{named, fault_of};
 

@@ -1,4 +1,5 @@
-// The values of an element.
+//! The values of an element.
+
 ghost use Rattle.std.specs.Prelude.{◌≡◌, ◌↔◌, ◌<◌, ◌≤◌, ◌+◌, ℕ, List, [], None, length, true, Contains, IsSome, IfOk, IfSome, OnOk};
 ghost use Rattle.std.specs.Option.{option_copied};
 ghost use Rattle.cv_spec_text.specs.Keywords.{is_custom};
@@ -7,9 +8,9 @@ ghost use Rattle.cv_spec_element.specs.Element.{Outcome};
 ghost use Rattle.cv_spec_element.specs.Valuation.{Cause, IsInvalid, IsValuation};
 ghost use Rattle.cv_graph.specs.Edges.{most_targets};
 ghost use Rattle.cv_subst.specs.Values.{value_in};
-ghost use Rattle.cv_props.specs.declared.computed.Cause.{Cause as Reported};
-ghost use Rattle.cv_props.specs.declared.key.Key.{Key};
-ghost use Rattle.cv_props.specs.declared.key.Key.TheVariants.{Custom};
+ghost use Rattle.cv_valuation.specs.declared.computed.Cause.{Cause as Reported};
+ghost use Rattle.cv_valuation.specs.declared.key.Key.{Key};
+ghost use Rattle.cv_valuation.specs.declared.key.Key.TheVariants.{Custom};
 ghost use Rattle.cv_props.specs.Winners.{declaration_of};
 ghost use Rattle.cv_element.specs.Element.{the_element, values_of, cause_of, AreKept, ParentIsKept, IsOnce, IsByName, IsReported, IsComputed};
 ghost use Rattle.cv_element.specs.Counting.{reference_count};

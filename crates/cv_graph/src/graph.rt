@@ -1,3 +1,5 @@
+//! Graphs of numbered nodes.
+
 use crate::steps::Steps;
 use std::alloc::{AllocError, Global};
 use std::marker::Model;

@@ -1,4 +1,5 @@
-// Sinks in memory.
+//! Sinks in memory.
+
 ghost use Rattle.std.specs.Prelude.{◌≡◌, ◌≢◌, ◌≤◌, ◌+◌, ◌-◌, ◌^◌, [], Some, Err, min, length, IfOk, OnOk, Contains, IsErrOf, ◌↔◌};
 ghost use Rattle.std.specs.Io.{WritesAtMost};
 ghost use Rattle.std.specs.Io.KnownBytes.{WriteAppends};

@@ -1,4 +1,5 @@
-// What no context changes, and what spellings say.
+//! What no context changes, and what spellings say.
+
 ghost use Rattle.cv_numeric.specs.Alike.{IsMismatchAlike};
 ghost use Rattle.cv_numeric.specs.Signs.{SignsAreTold};
 

@@ -1,4 +1,4 @@
-// What was ignored, and why.
+//! What was ignored, and why.
 
 /// Where a rule of the sheet or an item of a style stands. Both are counted from 0 in their list, ignored ones included.
 #[derive(Clone, Copy, Debug, PartialEq, Eq)]

@@ -1,7 +1,8 @@
-// The causes of an element's faults by key.
+//! The causes of an element's faults by key.
+
 ghost use Rattle.std.specs.Prelude.{◌≡◌, [], ◌∷◌, ◌++◌, IfOk, OnOk};
 ghost use Rattle.std.specs.Option.{option_copied};
-ghost use Rattle.cv_props.specs.declared.key.Key as keys;
+ghost use Rattle.cv_valuation.specs.declared.key.Key as keys;
 ghost use Rattle.cv_report.specs.Report.{cause_of};
 
 use cv_props::{Cause, Key};
@@ -17,8 +18,8 @@ pub struct Causes {
 
 impl Model for Causes {
     ghost use Rattle.std.specs.Prelude.{List};
-    ghost use Rattle.cv_props.specs.declared.computed.Cause.{Cause};
-    ghost use Rattle.cv_props.specs.declared.key.Key.{Key};
+    ghost use Rattle.cv_valuation.specs.declared.computed.Cause.{Cause};
+    ghost use Rattle.cv_valuation.specs.declared.key.Key.{Key};
 
     ghost Value = { List (Key × Cause) };
 

@@ -1,4 +1,5 @@
-// The lines of a report.
+//! The lines of a report.
+
 ghost use Rattle.std.specs.Prelude.{◌≡◌, ◌++◌, decimal, find, IfOk, OnOk, OnErr};
 ghost use Rattle.std.specs.Option.{option_copied};
 ghost use Rattle.cv_report.specs.Report.{cause_line, cause_of, cause_text, counted, note_line, outcome_line, place_text, subject, value_lines, why_text};
@@ -119,6 +120,7 @@ fn cause_text(cause: &Cause) -> &'static str
         Cause::Cycle => "cycle",
         Cause::Missing(_) => "missing",
         Cause::Limit(_) => "limit",
+        Cause::Mismatch => "mismatch",
     }
 }
 

@@ -1,4 +1,5 @@
-// The report, line by line into a sink.
+//! The report, line by line into a sink.
+
 ghost use Rattle.std.specs.Prelude.{◌<◌, ◌++◌, length, OnOk, OnErr};
 ghost use Rattle.std.specs.Option.{option_copied};
 ghost use Rattle.std.specs.Io.KnownBytes.{Appends};

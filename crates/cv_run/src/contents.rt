@@ -1,4 +1,5 @@
-// What a document says of its elements.
+//! What a document says of its elements.
+
 ghost use Rattle.std.specs.Prelude.{◌≡◌, ◌≤◌, IfOk, IfSome, length, option_map};
 ghost use Rattle.cv_doc.specs.Kept.{TextsAreWithin};
 ghost use Rattle.cv_doc.specs.Reading.{shape_of};

@@ -1,10 +1,11 @@
-// The report of a document is single, and the names that it shows are those of properties.
+//! The report of a document is single, and the names that it shows are those of properties.
+
 ghost use Rattle.std.specs.Prelude.{◌≡◌, ℕ, All, List, is_some, length, true};
 ghost use Rattle.cv_doc.specs.declared.elements.Elem.{Elem};
 ghost use Rattle.cv_doc.specs.Kept.{IsTree};
 ghost use Rattle.cv_doc.specs.Members.{is_name};
 ghost use Rattle.cv_doc.specs.Reading.{Shape};
-ghost use Rattle.cv_props.specs.Keys.{key_named};
+ghost use Rattle.cv_valuation.specs.Keys.{key_named};
 ghost use Rattle.cv_run.specs.Names.{named_keys};
 ghost use Rattle.cv_run.specs.Outcome.{IsText};
 ghost use Rattle.cv_run.specs.Single.{HasOneReport, HaveOneResult};

@@ -1,4 +1,5 @@
-// What becomes of an input, and the report of it.
+//! What becomes of an input, and the report of it.
+
 ghost use Rattle.std.specs.Prelude.{◌≤◌, IfErr, IfOk, length};
 ghost use Rattle.cv_doc.specs.Kept.{IsSound, TextsAreWithin};
 ghost use Rattle.cv_doc.specs.Reading.{document_of, shape_of};

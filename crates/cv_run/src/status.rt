@@ -1,4 +1,5 @@
-// How a run ended.
+//! How a run ended.
+
 ghost use Rattle.std.specs.Prelude.{◌≡◌};
 ghost use Rattle.cv_run.specs.StatusLines.{code_of};
 ghost use Rattle.cv_run.specs.declared.status.Status.TheVariants.{NoMemory};

@@ -1,4 +1,5 @@
-// The line of a status.
+//! The line of a status.
+
 ghost use Rattle.std.specs.Prelude.{◌≡◌, ◌∷◌, []};
 ghost use Rattle.cv_io.specs.Causes.{HasSinkCause};
 ghost use Rattle.cv_report.specs.Written.{TookText};

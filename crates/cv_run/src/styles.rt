@@ -1,4 +1,5 @@
-// The styles of a document's elements: their declarations, and what is ignored in them.
+//! The styles of a document's elements: their declarations, and what is ignored in them.
+
 ghost use Rattle.std.specs.Prelude.{◌≡◌, ◌≤◌, ◌++◌, All, IfOk, IfSome, IsSome, length, option_map};
 ghost use Rattle.cv_spec_text.specs.Splits.{IsSpelt};
 ghost use Rattle.cv_run.specs.Building.{all_built, built_style};

@@ -1,4 +1,5 @@
-// The valuations of a tree: those of its elements, each given its parent's.
+//! The valuations of a tree: those of its elements, each given its parent's.
+
 ghost use Rattle.std.specs.Prelude.{◌≡◌, ◌≤◌, ◌<◌, All, IfOk, Option, length, slice_get, option_map, map};
 ghost use Rattle.std.specs.Option.{option_copied};
 ghost use Rattle.cv_element.specs.Element.{AreKept, IsComputed, ParentIsKept};

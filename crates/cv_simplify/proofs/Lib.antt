@@ -1,8 +1,10 @@
 pub mod Apart
+pub mod Appends
 pub mod Bounds
 pub mod Canonical
 pub mod CleanTexts
 pub mod Divisors
+pub mod Figured
 pub mod Firsts
 pub mod Folds
 pub mod InRange
@@ -17,6 +19,7 @@ pub mod KindsKept
 pub mod Least
 pub mod LinearKinds
 pub mod Measures
+pub mod NormalTerms
 pub mod Numbers
 pub mod ProductRange
 pub mod Ranges

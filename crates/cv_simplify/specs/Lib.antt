@@ -3,9 +3,11 @@ pub mod Canonical
 pub mod Checked
 pub mod Counted
 pub mod Firsts
+pub mod Normal
 pub mod Number
 pub mod Row
 pub mod Simplified
+pub mod Starts
 pub mod Text
 pub mod TypeIn
 pub mod UnitOrder

@@ -8,12 +8,14 @@ ghost use Rattle.cv_simplify.specs.Simplified.{one_or, compares_percent, simp};
 ghost use Rattle.cv_simplify.specs.Agrees.{KeepsValue};
 ghost use Rattle.cv_simplify.specs.Canonical.{holds_canonical};
 ghost use Rattle.cv_simplify.specs.Counted.{is_in_range};
+ghost use Rattle.cv_simplify.specs.Normal.{number_terms, other_terms, EachUnitOnce};
 ghost use Rattle.cv_simplify.specs.TypeIn.{type_in};
 ghost use Rattle.cv_simplify.specs.Checked.{checked as checked_of, row_within, factors_within, shown as shown_of};
 
 use crate::error::SimpErr;
 use crate::factors::{Factors, shown, with_child};
 use crate::joining::{Joining, compares_percent};
+use crate::parted::{Normal, parted, terms_alone};
 use crate::row::{Row, with_simple};
 use crate::single::{inverted, literal_in, negated, within_limits};
 use cv_calc::{Calc, Context};
@@ -171,5 +173,25 @@ pub fn simplify(alloc: Global, c: &Calc, x: &Context) -> Result<Calc, SimpErr>
     match checked(alloc, c, x)? {
         Some(simple) => Ok(simple),
         None => Err(SimpErr::Range),
+    }
+}
+
+/// The simplified form of a linear calculation in a context as a sum (CSS Values and Units 4, "Simplification"): 3px and 5%, and no
+/// other terms, for `1px + 5% + 2px` where percentages are kept.
+///
+/// # Errors
+///
+/// `Range` where a fraction that is counted is out of bounds, and `Memory`.
+pub fn normal(alloc: Global, c: &Calc, x: &Context) -> Result<Normal, SimpErr>
+    requires { is_linear c.now ≡ true }
+    ensures terms { IfOk result (λ n. n.terms ≡ number_terms (simp x.now c.now)) }
+    ensures others { IfOk result (λ n. n.others ≡ other_terms (simp x.now c.now)) }
+    ensures once { IfOk result (λ n. EachUnitOnce n.terms) }
+    ensures in_range { OnOk result (is_in_range x.now c.now ≡ true) }
+    ensures range { result ≡ Err SimpErr.Range → is_in_range x.now c.now ≡ false }
+{
+    match simplify(alloc, c, x) {
+        Ok(simple) => Ok(parted(alloc, terms_alone(alloc, simple)?)?),
+        Err(error) => Err(error),
     }
 }

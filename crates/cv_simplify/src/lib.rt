@@ -8,6 +8,7 @@ mod factors;
 mod joining;
 mod laws;
 mod number;
+mod parted;
 mod place;
 mod rank;
 mod reversed;
@@ -16,7 +17,9 @@ mod single;
 mod text;
 mod tokens;
 
-pub use calculation::simplify;
+pub use calculation::{normal, simplify};
 pub use error::SimpErr;
 pub use laws::ranks_are_byte_order;
+pub use parted::Normal;
+pub use std::alloc::AllocError as OutOfMemory;
 pub use text::calc_tokens;

@@ -1,3 +1,5 @@
+//! A small element that meets the premises.
+
 ghost use Rattle.cv_spec_element.specs.Dependencies.{Edge};
 ghost use Rattle.cv_spec_element.specs.Premises.{IsLawful};
 ghost use Rattle.cv_spec_element.specs.Small.{size, length, small_element};

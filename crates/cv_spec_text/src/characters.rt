@@ -1,4 +1,5 @@
-// Kinds of code points.
+//! Kinds of code points.
+
 ghost use Rattle.std.specs.Prelude.{◌≡◌};
 ghost use Rattle.cv_spec_text.specs.Characters.{is_whitespace, is_ident_start, is_ident_code_point, is_quote};
 

@@ -1,4 +1,5 @@
-// Tokens that are no more than a limit.
+//! Tokens that are no more than a limit.
+
 ghost use Rattle.std.specs.Prelude.{◌≡◌, ◌≤◌, All, length};
 ghost use Rattle.cv_spec_text.specs.Splits.{IsSpelt};
 

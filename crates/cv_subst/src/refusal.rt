@@ -1,4 +1,5 @@
-// Why a list isn't substituted.
+//! Why a list isn't substituted.
+
 ghost use Rattle.std.specs.Prelude.{◌≡◌};
 
 use cv_spec_text::{Name, OutOfMemory};

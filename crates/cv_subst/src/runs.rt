@@ -1,4 +1,5 @@
-// What references stand for.
+//! What references stand for.
+
 ghost use Rattle.std.specs.Prelude.{◌≡◌, ◌≢◌, ℕ, List, None, Some, OnOk, OnErr, option_map};
 ghost use Rattle.std.specs.Option.{option_copied};
 ghost use Rattle.cv_subst.specs.Values.{value_in};

@@ -1,4 +1,5 @@
-// Substitution, one part at a time.
+//! Substitution, one part at a time.
+
 ghost use Rattle.std.specs.Prelude.{◌≡◌, ◌⊎◌, ◌<◌, ◌≤◌, ◌+◌, ◌^◌, ◌++◌, ℕ, List, All, length, ◌∷◌, IfOk, IfErr, OnOk, IsErrOf, Ok, Err};
 ghost use Rattle.cv_spec_element.specs.Pieces.{sub, joined};
 ghost use Rattle.cv_spec_text.specs.Splits.{IsSpelt};
@@ -13,8 +14,8 @@ ghost use Rattle.cv_var.specs.References.{pieces_of};
 use crate::bounded::Bounded;
 use crate::refusal::SubstErr;
 use crate::runs::Runs;
-use cv_spec_text::{Name, OutOfMemory, Run, Token};
-use cv_var::{Declared, Part};
+use cv_spec_text::{Name, Run, Token, push_tokens};
+use cv_var::{Declared, Part, pieces_are_read};
 use std::alloc::Global;
 use std::slice;
 
@@ -64,15 +65,6 @@ fn length_of(declared: &Declared, values: &Runs) -> Result<u128, SubstErr>
     Ok(total)
 }
 
-fn push_all(all: &mut Vec<Token>, tokens: &[Token]) -> Result<(), OutOfMemory>
-    ensures { OnOk result (all.new.items ≡ all.old.items ++ tokens.now) }
-{
-    for token in tokens {
-        all.push(token.copy()?)?;
-    }
-    Ok(())
-}
-
 // The list with its references replaced.
 fn tokens_of(alloc: Global, declared: &Declared, values: &Runs) -> Result<Vec<Token>, SubstErr>
     ensures ok { IfOk result (λ tokens. sub (value_in values.now) (pieces_of declared.now) ≡ Ok tokens.items) }
@@ -84,13 +76,65 @@ fn tokens_of(alloc: Global, declared: &Declared, values: &Runs) -> Result<Vec<To
     'parts: while let Some(part) = declared.part(number) {
         match replaced(part, values) {
             Ok((tokens, skip)) => {
-                push_all(&mut all, tokens)?;
+                push_tokens(&mut all, tokens)?;
                 number += 1 + skip;
             }
             Err(name) => return Err(SubstErr::Missing(name.copy()?)),
         }
     }
     Ok(all)
+}
+
+// Refuses so many tokens where they are more than the limit.
+fn check_count(total: u128, limit: u32) -> Result<(), SubstErr>
+    ensures ok { OnOk result (total ≤ limit) }
+    ensures err { IfErr result (λ refusal. (refusal ≡ SubstErr.OverLimit total) × (limit < total)) }
+{
+    if total > limit as u128 {
+        return Err(SubstErr::OverLimit(total));
+    }
+    Ok(())
+}
+
+// The run, if it isn't longer than the limit.
+fn bounded(list: &Run, limit: u32) -> Result<Bounded, SubstErr>
+    ensures limit { IfOk result (λ bounded. bounded.limit ≡ limit) }
+    ensures ok { IfOk result (λ bounded. bounded.tokens ≡ list.now) }
+    ensures only_where { IfErr result (λ refusal. (refusal ≡ SubstErr.Memory) ⊎ IsCause (Ok list.now) limit refusal) }
+    ensures exactly_where { (refusal : SubstErr) → IsCause (Ok list.now) limit refusal → IsErrOf result refusal ⊎ IsErrOf result SubstErr.Memory }
+{
+    match check_count(count(list.tokens()), limit) {
+        Ok(()) => {}
+        Err(refusal) => return Err(refusal),
+    }
+    Ok(Bounded::new(list.share()?, limit))
+}
+
+// The list with its references replaced, where it is no longer than the limit.
+fn substitute_parts(
+    alloc: Global,
+    declared: &Declared,
+    values: &Runs,
+    limit: u32,
+) -> Result<Bounded, SubstErr>
+    ensures limit { IfOk result (λ bounded. bounded.limit ≡ limit) }
+    ensures ok { IfOk result (λ bounded. sub (value_in values.now) (pieces_of declared.now) ≡ Ok bounded.tokens) }
+    ensures only_where { IfErr result (λ refusal. (refusal ≡ SubstErr.Memory) ⊎ IsCause (sub (value_in values.now) (pieces_of declared.now)) limit refusal) }
+    ensures exactly_where { (refusal : SubstErr) → IsCause (sub (value_in values.now) (pieces_of declared.now)) limit refusal → IsErrOf result refusal ⊎ IsErrOf result SubstErr.Memory }
+{
+    let total = match length_of(declared, values) {
+        Ok(total) => total,
+        Err(refusal) => return Err(refusal),
+    };
+    match check_count(total, limit) {
+        Ok(()) => {}
+        Err(refusal) => return Err(refusal),
+    }
+    let all = match tokens_of(alloc, declared, values) {
+        Ok(all) => all,
+        Err(refusal) => return Err(refusal),
+    };
+    Ok(Bounded::new(Run::of(alloc, all)?, limit))
 }
 
 /// The list with each reference replaced: by the run of its name, else by its fallback (Cascading Variables 1, "Using
@@ -100,7 +144,8 @@ fn tokens_of(alloc: Global, declared: &Declared, values: &Runs) -> Result<Vec<To
 /// - [`SubstErr::OverLimit`] with the length of the list, exactly where that is more than the limit.
 ///
 /// Each token of the list counts, and a fallback that isn't used doesn't. A run isn't searched for references. The tokens
-/// are counted before any is copied, so a list that is longer than the limit is never built.
+/// are counted before any is copied, so a list that is longer than the limit is never built. A list without references isn't
+/// copied: the answer shares its run.
 pub fn substitute(
     alloc: Global,
     declared: &Declared,
@@ -114,16 +159,10 @@ pub fn substitute(
     ensures only_where { IfErr result (λ refusal. (refusal ≡ SubstErr.Memory) ⊎ IsCause (sub (value_in values.now) (pieces_of declared.now)) limit refusal) }
     ensures exactly_where { (refusal : SubstErr) → IsCause (sub (value_in values.now) (pieces_of declared.now)) limit refusal → IsErrOf result refusal ⊎ IsErrOf result SubstErr.Memory }
 {
-    let total = match length_of(declared, values) {
-        Ok(total) => total,
-        Err(refusal) => return Err(refusal),
-    };
-    if total > limit as u128 {
-        return Err(SubstErr::OverLimit(total));
+    pieces_are_read();
+    if declared.has_var() {
+        substitute_parts(alloc, declared, values, limit)
+    } else {
+        bounded(declared.run(), limit)
     }
-    let all = match tokens_of(alloc, declared, values) {
-        Ok(all) => all,
-        Err(refusal) => return Err(refusal),
-    };
-    Ok(Bounded::new(Run::of(alloc, all)?, limit))
 }

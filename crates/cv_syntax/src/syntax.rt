@@ -1,4 +1,5 @@
-// What a syntax string says (Properties and Values API 1, "Syntax Strings").
+//! What a syntax string says (Properties and Values API 1, "Syntax Strings").
+
 ghost use Rattle.std.specs.Prelude.{◌≡◌, IfOk};
 
 use cv_spec_text::Name;

@@ -1,4 +1,5 @@
-// What is read ends at its first end.
+//! What is read ends at its first end.
+
 ghost use Rattle.cv_text_laws.specs.FirstEnds.{CommentsEndFirst, CommentsTakeClosing, StringsEndFirst, StringsTakeQuotes, UrlsEndFirst, UrlsTakeClosing};
 
 /// A string ends at the first quote of its kind or LF that isn't escaped, or at the end of the text.

@@ -1,4 +1,5 @@
-// What is read is the longest that stands there.
+//! What is read is the longest that stands there.
+
 ghost use Rattle.cv_text_laws.specs.EscapeSpellings.{EscapesAreLongest, NoEscapeIsMissed};
 ghost use Rattle.cv_text_laws.specs.NameSpellings.{NamesAreLongest, WhitespaceIsLongest};
 ghost use Rattle.cv_text_laws.specs.NumberSpellings.{NoNumberIsMissed, NumbersAreLongest};

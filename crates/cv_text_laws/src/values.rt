@@ -1,4 +1,5 @@
-// What escapes and names spell.
+//! What escapes and names spell.
+
 ghost use Rattle.cv_text_laws.specs.CodePoints.{HexEscapesStandForTheirNumber, LastEscapeStandsForReplacement, NamesEnd, NamesKeepCodePoints, NamesReadEscapes, PlainEscapesStandForThemselves};
 
 /// The code point that an escape stands for.

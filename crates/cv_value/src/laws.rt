@@ -1,4 +1,5 @@
-// What no context changes.
+//! What no context changes.
+
 ghost use Rattle.cv_value.specs.Alike.{IsMismatchAlike};
 
 use cv_colorread::mismatch_is_alike as colors_are_alike;

@@ -19,7 +19,7 @@ use Rattle.cv_value.specs.declared.typed.Item.{Item}
 use Rattle.cv_value.specs.declared.typed.Typed.TheVariants.{One, Spaces, Commas}
 use Rattle.cv_value.specs.Items.{item}
 use Rattle.cv_value.specs.Matching.{each, listed, as_many, component, components, of_syntax, matching}
-use Rattle.cv_value_laws.specs.Values.{OfItems}
+use Rattle.cv_value.specs.Kept.{OfItems}
 use Rattle.cv_value_laws.proofs.Passing.{ByTokens, parts_pass, filled_pass, trims_pass}
 
 -- it holds of the value, where there is a fit
@@ -35,6 +35,11 @@ pub if_each : {A : Type 0} (P : A → Type 0) → ((a : A) → P a) → (o : Mat
 if_each P h No = tt
 if_each P h Out = tt
 if_each P h (Fit a) = h a
+
+pub if_kept : {A : Type 0} (P Q : A → Type 0) → ((a : A) → P a → Q a) → (o : Matched A) → IfFit P o → IfFit Q o
+if_kept P Q h No k = tt
+if_kept P Q h Out k = tt
+if_kept P Q h (Fit a) k = h a k
 
 pub if_mapped : {A B : Type 0} (P : A → Type 0) (Q : B → Type 0) (f : A → B) → ((a : A) → P a → Q (f a)) → (o : Matched A) → IfFit P o → IfFit Q (mapped f o)
 if_mapped P Q f h No k = tt

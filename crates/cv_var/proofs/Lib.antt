@@ -7,8 +7,10 @@ pub mod Lending
 pub mod Naming
 pub mod SegmentSteps
 pub mod PiecesRead
+pub mod Plain
 pub mod Ends
 pub mod GoodLists
 pub mod BlockFronts
 pub mod WhiteEnds
 pub mod NoVar
+pub mod Mentions

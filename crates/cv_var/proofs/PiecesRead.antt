@@ -6,11 +6,11 @@ use Rattle.cv_spec_element.specs.Pieces.{sub, joined}
 use Rattle.cv_var.specs.References.{is_var, has_var, reference_at, function_size, first_piece, pieces_of, PiecesAreRead}
 use Rattle.cv_var.proofs.Unfolding.{pieces_of-nil, pieces_of-more}
 
-neither : (a b : Bool) → (a || b) ≡ false → (a ≡ false) × (b ≡ false)
+pub neither : (a b : Bool) → (a || b) ≡ false → (a ≡ false) × (b ≡ false)
 neither true b is = absurd cc
 neither false b is = (refl, is)
 
-no_reference : (t : Token) (rest : List Token) → is_var t ≡ false → reference_at (t ∷ rest) ≡ None
+pub no_reference : (t : Token) (rest : List Token) → is_var t ≡ false → reference_at (t ∷ rest) ≡ None
 no_reference t rest is = rw is refl
 
 plain : (values : List ℕ → Option (List Token)) (tokens : List Token) → has_var tokens ≡ false → sub values (pieces_of tokens) ≡ Ok tokens

@@ -1,9 +1,9 @@
 -- What is found in a list, as places in it.
-use Rattle.std.specs.Prelude.{◌≡◌, ◌≤◌, ℕ, ◌-◌, ◌+◌, List, length, take, drop, slice_get, Option, Some, None, option_map}
+use Rattle.std.specs.Prelude.{◌≡◌, ◌≤◌, ℕ, ◌-◌, ◌+◌, List, length, take, drop, slice_get, Option, Some, None, option_map, map, true, false}
 use Rattle.cv_spec_text.specs.declared.token.Token.{Token}
 use Rattle.cv_spec_text.specs.declared.token.Token.TheVariants.{Ident}
-use Rattle.cv_var.specs.References.{Reference}
-use Rattle.cv_var.specs.Flat.{FlatPiece, flat_token, flat_reference}
+use Rattle.cv_var.specs.References.{Reference, has_var, pieces_of}
+use Rattle.cv_var.specs.Flat.{FlatPiece, flat_token, flat_reference, flattened}
 use Rattle.cv_var.specs.declared.place.Extent.{Extent}
 use Rattle.cv_var.specs.declared.place.Found.{Found}
 use Rattle.cv_var.specs.declared.place.Place.{Place}
@@ -45,3 +45,8 @@ pub record StandsAt (tokens : List Token) (found : Found) (reference : Option Re
 abbrev pub flat_at : List Token → Place → Option FlatPiece
 flat_at tokens (place.Token at) = option_map flat_token (slice_get tokens at)
 flat_at tokens (place.Reference at fallback) = option_map (λ name. flat_reference name fallback) (name_at tokens at)
+
+-- what is kept of a list's parts: nothing where it has no `var()`, else the place of each
+abbrev pub AreParts : List Token → Option (List Place) → Type 0
+AreParts tokens None = has_var tokens ≡ false
+AreParts tokens (Some places) = (has_var tokens ≡ true) × (map (flat_at tokens) places ≡ map Some (flattened (pieces_of tokens)))

@@ -1,4 +1,5 @@
-// The parts of a list, as they are lent.
+//! The parts of a list, as they are lent.
+
 ghost use Rattle.std.specs.Prelude.{◌≡◌, All, IfSome, option_map};
 ghost use Rattle.cv_spec_text.specs.Splits.{IsSpelt};
 ghost use Rattle.cv_var.specs.Flat.{flat, IsSpeltPiece};

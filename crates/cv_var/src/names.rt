@@ -1,4 +1,5 @@
-// The names that a list refers to.
+//! The names that a list refers to.
+
 ghost use Rattle.std.specs.Prelude.{◌≡◌, [], ◌∷◌, fold, bytes_eq, IfOk, OnOk};
 ghost use Rattle.std.specs.List.{IsDistinct};
 ghost use Rattle.cv_var.specs.Flat.{flat};
@@ -16,7 +17,9 @@ fn add_name(names: &mut IndexSet<Name>, part: Part<'_>) -> Result<(), OutOfMemor
     ensures { OnOk result (names.new.keys ≡ fold with_name names.old.keys (names_in (flat part.entry ∷ []))) }
 {
     if let Part::Reference { name, .. } = part {
-        names.insert(name.copy()?)?;
+        if !names.contains(name) {
+            names.insert(name.copy()?)?;
+        }
     }
     Ok(())
 }

@@ -1,14 +1,49 @@
-// The parts of a list, as it keeps them.
-ghost use Rattle.std.specs.Prelude.{◌≡◌, ◌≤◌, ◌++◌, ◌∷◌, vec_len, length, map, Some, IfOk, OnOk};
+//! The parts of a list, as it keeps them.
+
+ghost use Rattle.std.specs.Prelude.{◌≡◌, ◌≤◌, ◌++◌, ◌∷◌, vec_len, length, map, Some, false, option_map, IfOk, OnOk};
+ghost use Rattle.std.specs.Rc.{rc_slice_items};
 ghost use Rattle.cv_var.specs.Flat.{flattened};
-ghost use Rattle.cv_var.specs.Places.{flat_at, stretch};
-ghost use Rattle.cv_var.specs.References.{pieces_of};
+ghost use Rattle.cv_var.specs.Places.{AreParts, flat_at, stretch};
+ghost use Rattle.cv_var.specs.References.{has_var, pieces_of};
 ghost use Rattle.cv_var.specs.declared.place.Place.{Place};
 
 use crate::place::Place;
-use crate::reference::{function_size, reference_at};
+use crate::reference::{function_size, is_var, reference_at};
 use cv_spec_text::{OutOfMemory, Token};
 use std::alloc::Global;
+use std::rc::RcSlice;
+
+/// How many tokens there are.
+pub fn token_count(tokens: &[Token]) -> usize
+    ensures { has_var tokens.now ≡ false → result ≡ length (flattened (pieces_of tokens.now)) }
+{
+    tokens.len()
+}
+
+/// The parts of a list, if it has a `var()`.
+pub fn parts_in(alloc: Global, tokens: &[Token]) -> Result<Option<RcSlice<Place>>, OutOfMemory>
+    ensures { IfOk result (λ parts. AreParts tokens.now (option_map (λ places. rc_slice_items places) parts)) }
+{
+    if !has_var(tokens) {
+        return Ok(None);
+    }
+    let parts = parts_of(alloc, tokens, 0, tokens.len())?;
+    Ok(Some(RcSlice::from_vec(parts)?))
+}
+
+/// Whether there is a `var()`, at any depth.
+pub fn has_var(tokens: &[Token]) -> bool
+    ensures { result ≡ has_var tokens.now }
+{
+    let mut rest = tokens;
+    'tokens: while let [token, after @ ..] = rest {
+        if is_var(token) {
+            return true;
+        }
+        rest = after;
+    }
+    false
+}
 
 // Adds a reference and the parts of its fallback.
 fn push_reference(

@@ -1,4 +1,5 @@
-// What is found in a list, as places in it.
+//! What is found in a list, as places in it.
+
 ghost use Rattle.std.specs.Prelude.{◌≡◌, ◌≤◌, ◌-◌, ◌^◌, length, drop};
 ghost use Rattle.cv_var.specs.Places.{IsWithin, moved, stretch};
 ghost use Rattle.cv_component.specs.TopLevel.{trim_front, trim_end};

@@ -1,4 +1,5 @@
-// References, `var()`.
+//! References, `var()`.
+
 ghost use Rattle.std.specs.Prelude.{◌≡◌, ◌≤◌, ◌<◌, ◌+◌, ◌-◌, ◌^◌, ℕ, List, length, drop, codes, IfOk, IfSome, MatchOption, OnSome, IsTrue, Some, None};
 ghost use Rattle.cv_var.specs.References.{is_var, begins_var, name_in, fallback_in, reference_in, inner_to, function_size, reference_at, is_bad_var, bad_var};
 ghost use Rattle.cv_spec_text.specs.Keywords.{is_word};

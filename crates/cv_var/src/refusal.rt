@@ -1,4 +1,5 @@
-// The check of a declared list.
+//! The check of a declared list.
+
 ghost use Rattle.std.specs.Prelude.{◌≡◌, ◌⊎◌, ◌<◌, OnOk, IfErr, IsErrOf};
 ghost use Rattle.cv_component.specs.Nesting.{depth};
 ghost use Rattle.cv_var.specs.Checked.{IsChecked, IsCause};

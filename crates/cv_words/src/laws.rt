@@ -1,4 +1,5 @@
-// The words of the command line say one thing.
+//! The words of the command line say one thing.
+
 ghost use Rattle.std.specs.Prelude.{◌≡◌, ◌≢◌, ◌↔◌, ◌⊎◌, ℕ, List, [], false};
 ghost use Rattle.clap.specs.Words.{fault_of, takes};
 ghost use Rattle.cv_words.specs.Command.{Choices, HasJobs, command_of};

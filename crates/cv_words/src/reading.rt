@@ -1,4 +1,5 @@
-// The words of the command line, read with clap.
+//! The words of the command line, read with clap.
+
 ghost use Rattle.std.specs.Prelude.{IfOk, IsErrOf};
 ghost use Rattle.clap.specs.Words.{found_of};
 ghost use Rattle.cv_words.specs.Words.{HasJob, HasNumber, HasWords, IsGiven, IsReadFrom, IsRefused, MayGiveJob, MayGiveNumber, texts_of};

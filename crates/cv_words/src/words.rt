@@ -1,4 +1,5 @@
-// What the words of the command line say.
+//! What the words of the command line say.
+
 ghost use Rattle.std.specs.Prelude.{◌≡◌};
 ghost use Rattle.cv_words.specs.Words.{job_named};
 

@@ -32,9 +32,9 @@ parts-preserved c =
     let ahead = c.in-Ok.ensures.within (length (flattened (pieces_of c.args.declared.now))) c.parts.number c.in-Some.ensures.within here in
     record {
       within = omega (arith, ahead);
-      spelt = subst (All IsSpelt) (sym c.in_ok-push_all-in-Ok.ensures) (All-append IsSpelt c.parts.all.items c.in-Ok.tokens.now c.parts.invariant.spelt (c.in-Ok.ensures.spelt c.in-Some.ensures.spelt));
+      spelt = subst (All IsSpelt) (sym c.in_ok-push_tokens-in-Ok.ensures) (All-append IsSpelt c.parts.all.items c.in-Ok.tokens.now c.parts.invariant.spelt (c.in-Ok.ensures.spelt c.in-Some.ensures.spelt));
       front =
-          rw c.in_ok-push_all-in-Ok.ensures
+          rw c.in_ok-push_tokens-in-Ok.ensures
           (stepped (value_in c.args.values.now) (flattened (pieces_of c.args.declared.now)) c.parts.number c.in-Ok.skip (flat c.in-Some.part) c.parts.all.items c.in-Ok.tokens.now c.parts.invariant.front (sym c.in-Some.ensures.part) c.in-Ok.ensures.ok);
     }
 
