@@ -15,7 +15,7 @@ use std::alloc::{AllocError, Global};
 
 /// The lesser or the greater of two numbers is chosen.
 #[derive(Clone, Copy)]
-pub(crate) enum Choice {
+pub enum Choice {
     Least,
     Greatest,
 }

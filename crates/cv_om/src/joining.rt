@@ -11,7 +11,7 @@ use cv_frac::{Frac, FracErr};
 
 /// Values are added or multiplied, or the least or the greatest of them is taken.
 #[derive(Clone, Copy)]
-pub(crate) enum Joining {
+pub enum Joining {
     Sum,
     Product,
     Least,

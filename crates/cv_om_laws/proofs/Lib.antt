@@ -1,0 +1,5 @@
+pub mod Joined
+pub mod Scaled
+pub mod Turned
+pub mod Valued
+pub mod Values
