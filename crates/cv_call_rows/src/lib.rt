@@ -12,6 +12,8 @@ mod names;
 #[cfg(test)]
 mod numbers;
 #[cfg(test)]
+mod numerics;
+#[cfg(test)]
 mod references;
 #[cfg(test)]
 mod syntaxes;

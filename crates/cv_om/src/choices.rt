@@ -3,7 +3,7 @@
 ghost use Rattle.std.specs.Prelude.{◌≡◌, [], ◌∷◌, fold, Ok, IfOk, IfErr};
 ghost use Rattle.cv_om.specs.Refusal.{IsRefusal};
 ghost use Rattle.cv_om.specs.Choice.{choice_of};
-ghost use Rattle.cv_om.specs.SumValue.{one_item as one_item_of, inverse_row as inverse_row_of, chosen_item as chosen_item_of, chosen_next, chosen_row as chosen_row_of, limited_item as limited_item_of, limited_row as limited_row_of};
+ghost use Rattle.cv_om.specs.SumValue.{one_item, inverse_row, chosen_item, chosen_next, chosen_row, limited_item, limited_row};
 
 use crate::error::OmErr;
 use crate::item::SumItem;
@@ -41,8 +41,8 @@ fn row_of(alloc: Global, item: SumItem) -> Result<Items<SumItem>, AllocError>
 
 /// The one item of a row.
 fn one_item(alloc: Global, row: &[SumItem]) -> Result<SumItem, OmErr>
-    ensures ok { IfOk result (λ item. one_item_of row.now ≡ Ok item) }
-    ensures err { IfErr result (IsRefusal (one_item_of row.now)) }
+    ensures ok { IfOk result (λ item. one_item row.now ≡ Ok item) }
+    ensures err { IfErr result (IsRefusal (one_item row.now)) }
 {
     match row {
         [item] => Ok(item.copy(alloc)?),
@@ -52,8 +52,8 @@ fn one_item(alloc: Global, row: &[SumItem]) -> Result<SumItem, OmErr>
 
 /// The row of a reciprocal.
 pub(crate) fn inverse_row(alloc: Global, row: &[SumItem]) -> Result<Items<SumItem>, OmErr>
-    ensures ok { IfOk result (λ inverse. inverse_row_of row.now ≡ Ok inverse) }
-    ensures err { IfErr result (IsRefusal (inverse_row_of row.now)) }
+    ensures ok { IfOk result (λ inverse. inverse_row row.now ≡ Ok inverse) }
+    ensures err { IfErr result (IsRefusal (inverse_row row.now)) }
 {
     let item = match one_item(alloc, row) {
         Ok(item) => item,
@@ -70,7 +70,7 @@ pub(crate) fn inverse_row(alloc: Global, row: &[SumItem]) -> Result<Items<SumIte
 
 /// One of two items of equal unit maps.
 fn chosen_item(choice: Choice, s: SumItem, t: SumItem) -> Result<SumItem, OmErr>
-    ensures { result ≡ chosen_item_of (choice_of choice) s t }
+    ensures { result ≡ chosen_item (choice_of choice) s t }
 {
     if same_powers(s.units.as_slice(), t.units.as_slice()) {
         Ok(SumItem {
@@ -124,8 +124,8 @@ pub(crate) fn chosen_row(
     choice: Choice,
     rows: &[Items<SumItem>],
 ) -> Result<Items<SumItem>, OmErr>
-    ensures ok { IfOk result (λ row. chosen_row_of (choice_of choice) rows.now ≡ Ok row) }
-    ensures err { IfErr result (IsRefusal (chosen_row_of (choice_of choice) rows.now)) }
+    ensures ok { IfOk result (λ row. chosen_row (choice_of choice) rows.now ≡ Ok row) }
+    ensures err { IfErr result (IsRefusal (chosen_row (choice_of choice) rows.now)) }
 {
     match rows.split_first() {
         None => Err(OmErr::BadType),
@@ -146,8 +146,8 @@ fn limited_item(
     middle: &[SumItem],
     high: &[SumItem],
 ) -> Result<SumItem, OmErr>
-    ensures ok { IfOk result (λ s. limited_item_of low.now middle.now high.now ≡ Ok s) }
-    ensures err { IfErr result (IsRefusal (limited_item_of low.now middle.now high.now)) }
+    ensures ok { IfOk result (λ s. limited_item low.now middle.now high.now ≡ Ok s) }
+    ensures err { IfErr result (IsRefusal (limited_item low.now middle.now high.now)) }
 {
     let least = match one_item(alloc, low) {
         Ok(item) => item,
@@ -170,8 +170,8 @@ pub(crate) fn limited_row(
     middle: &[SumItem],
     high: &[SumItem],
 ) -> Result<Items<SumItem>, OmErr>
-    ensures ok { IfOk result (λ row. limited_row_of low.now middle.now high.now ≡ Ok row) }
-    ensures err { IfErr result (IsRefusal (limited_row_of low.now middle.now high.now)) }
+    ensures ok { IfOk result (λ row. limited_row low.now middle.now high.now ≡ Ok row) }
+    ensures err { IfErr result (IsRefusal (limited_row low.now middle.now high.now)) }
 {
     match limited_item(alloc, low, middle, high) {
         Ok(item) => Ok(row_of(alloc, item)?),

@@ -2,11 +2,11 @@
 
 ghost use Rattle.std.specs.Prelude.{◌≡◌, true, map, fold, position, Ok, IfOk, IfErr};
 ghost use Rattle.std.specs.List.{enumerate_from};
-ghost use Rattle.cv_calc.specs.Types.{type_of as kind_of};
+ghost use Rattle.cv_calc.specs.Types.{type_of};
 ghost use Rattle.cv_calc.specs.Linear.{has_type};
 ghost use Rattle.cv_spec_ratio.specs.Ratio.{zero_ratio};
 ghost use Rattle.cv_om.specs.Refusal.{IsRefusal, all_of};
-ghost use Rattle.cv_om.specs.Conversion.{converts as converts_to, placed_item as placed_item_of, collected_next, collected as collected_of, has_sum_type as has_sum_type_of, collected_sum as collected_sum_of, units_row as units_row_of};
+ghost use Rattle.cv_om.specs.Conversion.{converts, placed_item, collected_next, collected, has_sum_type, collected_sum, units_row};
 
 use crate::conversion::converts;
 use crate::error::OmErr;
@@ -20,14 +20,14 @@ use std::alloc::{AllocError, Global};
 
 /// The place of the first unit to which an item converts.
 fn place_of(units: &[Unit], item: &SumItem) -> Option<usize>
-    ensures { result ≡ position (λ u. converts_to u item.now) units.now }
+    ensures { result ≡ position (λ u. converts u item.now) units.now }
 {
     units.iter().position(|unit| converts(*unit, item))
 }
 
 /// The place of the unit that collects an item, with the item's value.
 fn placed_item(units: &[Unit], item: &SumItem) -> Result<(usize, Frac), OmErr>
-    ensures { result ≡ placed_item_of units.now item.now }
+    ensures { result ≡ placed_item units.now item.now }
 {
     match place_of(units, item) {
         Some(place) => Ok((place, item.value)),
@@ -37,8 +37,8 @@ fn placed_item(units: &[Unit], item: &SumItem) -> Result<(usize, Frac), OmErr>
 
 /// The places and values of all items.
 fn placed(alloc: Global, units: &[Unit], row: &[SumItem]) -> Result<Items<(usize, Frac)>, OmErr>
-    ensures ok { IfOk result (λ all. all_of (map (placed_item_of units.now) row.now) ≡ Ok all) }
-    ensures err { IfErr result (IsRefusal (all_of (map (placed_item_of units.now) row.now))) }
+    ensures ok { IfOk result (λ all. all_of (map (placed_item units.now) row.now) ≡ Ok all) }
+    ensures err { IfErr result (IsRefusal (all_of (map (placed_item units.now) row.now))) }
 {
     let mut all = Items::new(alloc);
     for item in row {
@@ -80,7 +80,7 @@ fn total(place: usize, unit: Unit, values: &[(usize, Frac)]) -> Result<Frac, OmE
 
 /// What the unit at a place collects.
 fn collected(place: usize, unit: Unit, values: &[(usize, Frac)]) -> Result<Calc, OmErr>
-    ensures { result ≡ collected_of values.now (place, unit) }
+    ensures { result ≡ collected values.now (place, unit) }
 {
     match total(place, unit, values) {
         Ok(value) => Ok(Calc::Num(value, unit)),
@@ -94,8 +94,8 @@ fn collections(
     units: &[Unit],
     values: &[(usize, Frac)],
 ) -> Result<Items<Calc>, OmErr>
-    ensures ok { IfOk result (λ all. all_of (map (collected_of values.now) (enumerate_from 0 units.now)) ≡ Ok all) }
-    ensures err { IfErr result (IsRefusal (all_of (map (collected_of values.now) (enumerate_from 0 units.now)))) }
+    ensures ok { IfOk result (λ all. all_of (map (collected values.now) (enumerate_from 0 units.now)) ≡ Ok all) }
+    ensures err { IfErr result (IsRefusal (all_of (map (collected values.now) (enumerate_from 0 units.now)))) }
 {
     let mut all = Items::new(alloc);
     for place in 0..units.len() {
@@ -121,7 +121,7 @@ fn zeros(alloc: Global, units: &[Unit]) -> Result<Items<Calc>, AllocError>
 
 /// Whether the sum of some units has a type.
 fn has_sum_type(alloc: Global, units: &[Unit]) -> Result<bool, AllocError>
-    ensures { IfOk result (λ b. b ≡ has_sum_type_of units.now) }
+    ensures { IfOk result (λ b. b ≡ has_sum_type units.now) }
 {
     let sum = Calc::Sum(zeros(alloc, units)?);
     Ok(type_of(&sum).is_some())
@@ -129,9 +129,9 @@ fn has_sum_type(alloc: Global, units: &[Unit]) -> Result<bool, AllocError>
 
 /// The sum of what each unit collects.
 fn collected_sum(alloc: Global, units: &[Unit], values: &[(usize, Frac)]) -> Result<Calc, OmErr>
-    ensures ok { IfOk result (λ c. collected_sum_of units.now values.now ≡ Ok c) }
-    ensures err { IfErr result (IsRefusal (collected_sum_of units.now values.now)) }
-    ensures has_type { IfOk result (λ c. has_type (kind_of c) ≡ true) }
+    ensures ok { IfOk result (λ c. collected_sum units.now values.now ≡ Ok c) }
+    ensures err { IfErr result (IsRefusal (collected_sum units.now values.now)) }
+    ensures has_type { IfOk result (λ c. has_type (type_of c) ≡ true) }
 {
     if !has_sum_type(alloc, units)? {
         return Err(OmErr::BadType);
@@ -144,9 +144,9 @@ fn collected_sum(alloc: Global, units: &[Unit], values: &[(usize, Frac)]) -> Res
 
 /// The sum of some units to which the items of a row convert.
 pub(crate) fn units_row(alloc: Global, units: &[Unit], row: &[SumItem]) -> Result<Calc, OmErr>
-    ensures ok { IfOk result (λ c. units_row_of units.now row.now ≡ Ok c) }
-    ensures err { IfErr result (IsRefusal (units_row_of units.now row.now)) }
-    ensures has_type { IfOk result (λ c. has_type (kind_of c) ≡ true) }
+    ensures ok { IfOk result (λ c. units_row units.now row.now ≡ Ok c) }
+    ensures err { IfErr result (IsRefusal (units_row units.now row.now)) }
+    ensures has_type { IfOk result (λ c. has_type (type_of c) ≡ true) }
 {
     match placed(alloc, units, row) {
         Ok(values) => collected_sum(alloc, units, values.as_slice()),

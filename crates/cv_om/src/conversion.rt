@@ -1,11 +1,11 @@
 //! Conversion to a unit.
 
 ghost use Rattle.std.specs.Prelude.{◌≡◌, true, Ok, IfOk, IfErr};
-ghost use Rattle.cv_calc.specs.Types.{type_of as kind_of};
+ghost use Rattle.cv_calc.specs.Types.{type_of};
 ghost use Rattle.cv_calc.specs.Linear.{has_type};
 ghost use Rattle.cv_om.specs.Refusal.{IsRefusal};
 ghost use Rattle.cv_om.specs.UnitMap.{same_powers, unit_powers};
-ghost use Rattle.cv_om.specs.Conversion.{converts as converts_to, converted_row as converted_row_of, converted};
+ghost use Rattle.cv_om.specs.Conversion.{converts, converted_row, converted};
 
 use crate::error::OmErr;
 use crate::item::SumItem;
@@ -27,7 +27,7 @@ fn is_one_of(units: &[(Unit, i64)], unit: Unit) -> bool
 
 /// Whether an item converts to a unit.
 pub(crate) fn converts(unit: Unit, item: &SumItem) -> bool
-    ensures { result ≡ converts_to unit item.now }
+    ensures { result ≡ converts unit item.now }
 {
     is_one_of(item.units.as_slice(), unit)
 }
@@ -35,8 +35,8 @@ pub(crate) fn converts(unit: Unit, item: &SumItem) -> bool
 /// The one item of a row, in a unit.
 #[tactic(auto, using(crate::proofs::Types::number_has_type))]
 fn converted_row(unit: Unit, row: &[SumItem]) -> Result<Calc, OmErr>
-    ensures answer { result ≡ converted_row_of unit row.now }
-    ensures has_type { IfOk result (λ c. has_type (kind_of c) ≡ true) }
+    ensures answer { result ≡ converted_row unit row.now }
+    ensures has_type { IfOk result (λ c. has_type (type_of c) ≡ true) }
 {
     match row {
         [item] => {

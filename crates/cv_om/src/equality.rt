@@ -2,7 +2,7 @@
 
 ghost use Rattle.std.specs.Prelude.{◌≡◌, ◌↔◌, ◌&&◌, IsTrue, map};
 ghost use Rattle.cv_calc.specs.Unit.{same_unit};
-ghost use Rattle.cv_om.specs.Same.{same as same_as, same_list, same_ratio};
+ghost use Rattle.cv_om.specs.Same.{same, same_list, same_ratio};
 
 use crate::numeric::Numeric;
 use cv_calc::{Calc, Unit};
@@ -26,7 +26,7 @@ fn all_three(first: bool, second: bool, third: bool) -> bool
 #[cycle(same)]
 #[tactic(auto, using(crate::proofs::Sames::same_equations))]
 fn same(a: &Calc, b: &Calc) -> bool
-    ensures { result ≡ same_as a.now b.now }
+    ensures { result ≡ same a.now b.now }
 {
     match a {
         Calc::Num(v, u) => match b {
@@ -72,7 +72,7 @@ fn same(a: &Calc, b: &Calc) -> bool
 /// Whether some children are the same as others.
 #[cycle(same)]
 fn same_all(children: &[Calc], others: &[Calc]) -> bool
-    ensures { result ≡ same_list (map same_as children.now) others.now }
+    ensures { result ≡ same_list (map same children.now) others.now }
 {
     if children.len() != others.len() {
         return false;

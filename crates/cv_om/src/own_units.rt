@@ -2,10 +2,10 @@
 
 ghost use Rattle.std.specs.Prelude.{◌≡◌, ◌++◌, true, Ok, OnOk, IfOk, IfErr};
 ghost use Rattle.std.specs.List.{flat_map, list_all};
-ghost use Rattle.cv_calc.specs.Types.{type_of as kind_of};
+ghost use Rattle.cv_calc.specs.Types.{type_of};
 ghost use Rattle.cv_calc.specs.Linear.{has_type};
 ghost use Rattle.cv_om.specs.Refusal.{IsRefusal};
-ghost use Rattle.cv_om.specs.Conversion.{item_unit as item_unit_of, has_unit as has_unit_of, is_unit as is_unit_of, numbers_of as numbers_of_unit, units_by_name, own_row as own_row_of, summed_row as summed_row_of, summed};
+ghost use Rattle.cv_om.specs.Conversion.{item_unit, has_unit, is_unit, numbers_of, units_by_name, own_row, summed_row, summed};
 
 use crate::arithmetic::typed;
 use crate::collection::units_row;
@@ -52,7 +52,7 @@ const BY_NAME: [Unit; 30] = [
 
 /// The unit of an item that has one unit of power 1, or none.
 fn item_unit(units: &[(Unit, i64)]) -> Option<Unit>
-    ensures { result ≡ item_unit_of units.now }
+    ensures { result ≡ item_unit units.now }
 {
     match units {
         [] => Some(Unit::Number),
@@ -63,7 +63,7 @@ fn item_unit(units: &[(Unit, i64)]) -> Option<Unit>
 
 /// Whether each item has one unit of power 1, or none.
 fn all_have_units(row: &[SumItem]) -> bool
-    ensures { result ≡ list_all (λ s. has_unit_of (item_unit_of s.units)) row.now }
+    ensures { result ≡ list_all (λ s. has_unit (item_unit s.units)) row.now }
 {
     row.iter()
         .all(|item| item_unit(item.units.as_slice()).is_some())
@@ -71,7 +71,7 @@ fn all_have_units(row: &[SumItem]) -> bool
 
 /// Whether an item is of a unit.
 fn is_of(item: &SumItem, unit: Unit) -> bool
-    ensures { result ≡ is_unit_of (item_unit_of item.now.units) unit }
+    ensures { result ≡ is_unit (item_unit item.now.units) unit }
 {
     match item_unit(item.units.as_slice()) {
         Some(found) => found == unit,
@@ -81,7 +81,7 @@ fn is_of(item: &SumItem, unit: Unit) -> bool
 
 /// Adds the items of a unit, in their order.
 fn push_numbers(numbers: &mut Items<Calc>, row: &[SumItem], unit: Unit) -> Result<(), AllocError>
-    ensures { OnOk result (numbers.new ≡ numbers.old ++ numbers_of_unit row.now unit) }
+    ensures { OnOk result (numbers.new ≡ numbers.old ++ numbers_of row.now unit) }
 {
     for item in row {
         if is_of(item, unit) {
@@ -93,7 +93,7 @@ fn push_numbers(numbers: &mut Items<Calc>, row: &[SumItem], unit: Unit) -> Resul
 
 /// The items by the names of their units.
 fn numbers_by_name(alloc: Global, row: &[SumItem]) -> Result<Items<Calc>, AllocError>
-    ensures { IfOk result (λ numbers. numbers ≡ flat_map (numbers_of_unit row.now) units_by_name) }
+    ensures { IfOk result (λ numbers. numbers ≡ flat_map (numbers_of row.now) units_by_name) }
 {
     let mut numbers = Items::new(alloc);
     for unit in &BY_NAME {
@@ -104,9 +104,9 @@ fn numbers_by_name(alloc: Global, row: &[SumItem]) -> Result<Items<Calc>, AllocE
 
 /// The sum of all items.
 fn own_row(alloc: Global, row: &[SumItem]) -> Result<Calc, OmErr>
-    ensures ok { IfOk result (λ c. own_row_of row.now ≡ Ok c) }
-    ensures err { IfErr result (IsRefusal (own_row_of row.now)) }
-    ensures has_type { IfOk result (λ c. has_type (kind_of c) ≡ true) }
+    ensures ok { IfOk result (λ c. own_row row.now ≡ Ok c) }
+    ensures err { IfErr result (IsRefusal (own_row row.now)) }
+    ensures has_type { IfOk result (λ c. has_type (type_of c) ≡ true) }
 {
     if !all_have_units(row) {
         return Err(OmErr::BadType);
@@ -117,9 +117,9 @@ fn own_row(alloc: Global, row: &[SumItem]) -> Result<Calc, OmErr>
 
 /// The sum of given units, or of all items.
 fn summed_row(alloc: Global, units: &[Unit], row: &[SumItem]) -> Result<Calc, OmErr>
-    ensures ok { IfOk result (λ c. summed_row_of units.now row.now ≡ Ok c) }
-    ensures err { IfErr result (IsRefusal (summed_row_of units.now row.now)) }
-    ensures has_type { IfOk result (λ c. has_type (kind_of c) ≡ true) }
+    ensures ok { IfOk result (λ c. summed_row units.now row.now ≡ Ok c) }
+    ensures err { IfErr result (IsRefusal (summed_row units.now row.now)) }
+    ensures has_type { IfOk result (λ c. has_type (type_of c) ≡ true) }
 {
     match units {
         [] => own_row(alloc, row),

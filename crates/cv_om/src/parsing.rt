@@ -1,10 +1,10 @@
 //! What a text is read as.
 
 ghost use Rattle.std.specs.Prelude.{◌≡◌, true, Ok, IfOk, IfErr};
-ghost use Rattle.cv_calc.specs.Types.{type_of as kind_of};
+ghost use Rattle.cv_calc.specs.Types.{type_of};
 ghost use Rattle.cv_calc.specs.Linear.{has_type};
 ghost use Rattle.cv_om.specs.Refusal.{IsRefusal};
-ghost use Rattle.cv_om.specs.Parsed.{single as single_of, measured as measured_of, function_answer, refusal_of as refusal_from, parsed_tokens as parsed_tokens_of, parsed};
+ghost use Rattle.cv_om.specs.Parsed.{single, measured, function_answer, refusal_of, parsed_tokens, parsed};
 ghost use Rattle.cv_calcread.specs.Answer.{answer};
 ghost use Rattle.cv_calc.specs.Names.{unit_with_name};
 
@@ -21,8 +21,8 @@ use std::alloc::Global;
 /// A single value.
 #[tactic(auto, using(crate::proofs::Types::number_has_type))]
 fn single(spelling: &Name, unit: Unit) -> Result<Calc, OmErr>
-    ensures answer { result ≡ single_of spelling.now unit }
-    ensures has_type { IfOk result (λ c. has_type (kind_of c) ≡ true) }
+    ensures answer { result ≡ single spelling.now unit }
+    ensures has_type { IfOk result (λ c. has_type (type_of c) ≡ true) }
 {
     match in_range(Frac::read_spelling(spelling)) {
         Ok(value) => Ok(Calc::Num(value, unit)),
@@ -32,8 +32,8 @@ fn single(spelling: &Name, unit: Unit) -> Result<Calc, OmErr>
 
 /// A single value of a unit that has a name.
 fn measured(spelling: &Name, name: &Name) -> Result<Calc, OmErr>
-    ensures answer { result ≡ measured_of spelling.now (unit_with_name name.now) }
-    ensures has_type { IfOk result (λ c. has_type (kind_of c) ≡ true) }
+    ensures answer { result ≡ measured spelling.now (unit_with_name name.now) }
+    ensures has_type { IfOk result (λ c. has_type (type_of c) ≡ true) }
 {
     match unit_named(name) {
         Some(unit) => single(spelling, unit),
@@ -43,7 +43,7 @@ fn measured(spelling: &Name, name: &Name) -> Result<Calc, OmErr>
 
 /// The refusal of a text whose math function is refused.
 fn refusal_of(error: CalcErr) -> OmErr
-    ensures { result ≡ refusal_from error }
+    ensures { result ≡ refusal_of error }
 {
     match error {
         CalcErr::NoCalc => OmErr::Syntax,
@@ -59,7 +59,7 @@ fn refusal_of(error: CalcErr) -> OmErr
 fn function(alloc: Global, tokens: &[Token]) -> Result<Calc, OmErr>
     ensures ok { IfOk result (λ c. function_answer (answer tokens.now) ≡ Ok c) }
     ensures err { IfErr result (IsRefusal (function_answer (answer tokens.now))) }
-    ensures has_type { IfOk result (λ c. has_type (kind_of c) ≡ true) }
+    ensures has_type { IfOk result (λ c. has_type (type_of c) ≡ true) }
 {
     match read_calc(alloc, tokens) {
         Ok(c) => Ok(c),
@@ -69,9 +69,9 @@ fn function(alloc: Global, tokens: &[Token]) -> Result<Calc, OmErr>
 
 /// The calculation of a list of tokens.
 fn parsed_tokens(alloc: Global, tokens: &[Token]) -> Result<Calc, OmErr>
-    ensures ok { IfOk result (λ c. parsed_tokens_of tokens.now ≡ Ok c) }
-    ensures err { IfErr result (IsRefusal (parsed_tokens_of tokens.now)) }
-    ensures has_type { IfOk result (λ c. has_type (kind_of c) ≡ true) }
+    ensures ok { IfOk result (λ c. parsed_tokens tokens.now ≡ Ok c) }
+    ensures err { IfErr result (IsRefusal (parsed_tokens tokens.now)) }
+    ensures has_type { IfOk result (λ c. has_type (type_of c) ≡ true) }
 {
     match tokens {
         [token] => match token {

@@ -2,7 +2,7 @@
 
 ghost use Rattle.std.specs.Prelude.{◌≡◌, ◌++◌, map, fold, Ok, IfOk, IfErr, OnOk};
 ghost use Rattle.cv_om.specs.Refusal.{IsRefusal, all_of, answer_map};
-ghost use Rattle.cv_om.specs.SumValue.{item_product as item_product_of, item_products, times_row, product_row as product_row_of};
+ghost use Rattle.cv_om.specs.SumValue.{item_product, item_products, times_row, product_row};
 
 use crate::error::OmErr;
 use crate::item::SumItem;
@@ -13,8 +13,8 @@ use std::alloc::Global;
 
 /// The product of two items.
 fn item_product(alloc: Global, s: &SumItem, t: &SumItem) -> Result<SumItem, OmErr>
-    ensures ok { IfOk result (λ product. item_product_of s.now t.now ≡ Ok product) }
-    ensures err { IfErr result (IsRefusal (item_product_of s.now t.now)) }
+    ensures ok { IfOk result (λ product. item_product s.now t.now ≡ Ok product) }
+    ensures err { IfErr result (IsRefusal (item_product s.now t.now)) }
 {
     let value = match in_range(s.value.mul(t.value)) {
         Ok(value) => value,
@@ -33,8 +33,8 @@ fn push_products(
     s: &SumItem,
     others: &[SumItem],
 ) -> Result<(), OmErr>
-    ensures ok { OnOk result (answer_map (λ products. row.old ++ products) (all_of (map (item_product_of s.now) others.now)) ≡ Ok row.new) }
-    ensures err { IfErr result (IsRefusal (all_of (map (item_product_of s.now) others.now))) }
+    ensures ok { OnOk result (answer_map (λ products. row.old ++ products) (all_of (map (item_product s.now) others.now)) ≡ Ok row.new) }
+    ensures err { IfErr result (IsRefusal (all_of (map (item_product s.now) others.now))) }
 {
     for other in others {
         match item_product(alloc, s, other) {
@@ -84,8 +84,8 @@ pub(crate) fn product_row(
     alloc: Global,
     mut rows: Items<Items<SumItem>>,
 ) -> Result<Items<SumItem>, OmErr>
-    ensures ok { IfOk result (λ row. product_row_of rows ≡ Ok row) }
-    ensures err { IfErr result (IsRefusal (product_row_of rows)) }
+    ensures ok { IfOk result (λ row. product_row rows ≡ Ok row) }
+    ensures err { IfErr result (IsRefusal (product_row rows)) }
 {
     if rows.is_empty() {
         return Ok(Items::new(alloc));

@@ -2,7 +2,7 @@
 
 ghost use Rattle.std.specs.Prelude.{◌≡◌, map, Ok, IfOk, IfErr, OnOk};
 ghost use Rattle.cv_om.specs.Refusal.{IsRefusal, all_of};
-ghost use Rattle.cv_om.specs.SumValue.{number_row as number_row_of, with_row, sum_row as sum_row_of, negated_item, sum_value};
+ghost use Rattle.cv_om.specs.SumValue.{number_row, with_row, sum_row, negated_item, sum_value};
 
 use crate::choices::{Choice, chosen_row, inverse_row, limited_row};
 use crate::error::OmErr;
@@ -19,8 +19,8 @@ use std::alloc::{AllocError, Global};
 
 /// The row of a number.
 fn number_row(alloc: Global, value: Frac, unit: Unit) -> Result<Items<SumItem>, OmErr>
-    ensures ok { IfOk result (λ row. number_row_of value unit ≡ Ok row) }
-    ensures err { IfErr result (IsRefusal (number_row_of value unit)) }
+    ensures ok { IfOk result (λ row. number_row value unit ≡ Ok row) }
+    ensures err { IfErr result (IsRefusal (number_row value unit)) }
 {
     match converted(value, unit) {
         Ok(value) => {
@@ -49,8 +49,8 @@ fn add_row(alloc: Global, terms: &mut Terms, row: &[SumItem]) -> Result<(), OmEr
 
 /// The items of all rows, added.
 fn all_terms(alloc: Global, rows: &[Items<SumItem>]) -> Result<Terms, OmErr>
-    ensures ok { IfOk result (λ terms. sum_row_of rows.now ≡ Ok terms) }
-    ensures err { IfErr result (IsRefusal (sum_row_of rows.now)) }
+    ensures ok { IfOk result (λ terms. sum_row rows.now ≡ Ok terms) }
+    ensures err { IfErr result (IsRefusal (sum_row rows.now)) }
 {
     let mut terms = Terms::new(alloc);
     for row in rows {
@@ -64,8 +64,8 @@ fn all_terms(alloc: Global, rows: &[Items<SumItem>]) -> Result<Terms, OmErr>
 
 /// The row of a sum.
 fn sum_row(alloc: Global, rows: &[Items<SumItem>]) -> Result<Items<SumItem>, OmErr>
-    ensures ok { IfOk result (λ row. sum_row_of rows.now ≡ Ok row) }
-    ensures err { IfErr result (IsRefusal (sum_row_of rows.now)) }
+    ensures ok { IfOk result (λ row. sum_row rows.now ≡ Ok row) }
+    ensures err { IfErr result (IsRefusal (sum_row rows.now)) }
 {
     match all_terms(alloc, rows) {
         Ok(terms) => Ok(terms.into_items(alloc)?),

@@ -1,10 +1,10 @@
 //! The items of a sum, each with a unit map of its own.
 
 ghost use Rattle.std.specs.Prelude.{◌≡◌, [], ◌++◌, pos, Ok, IfOk, IfErr, OnOk};
-ghost use Rattle.cv_om.specs.Coded.{unit_number as unit_number_of, entry_code, map_code, sum_with as sum_with_of};
+ghost use Rattle.cv_om.specs.Coded.{unit_number, entry_code, map_code, sum_with};
 ghost use Rattle.std.specs.Option.{option_copied};
 ghost use Rattle.cv_om.specs.Refusal.{IsRefusal};
-ghost use Rattle.cv_om.specs.SumValue.{added_item as added_item_of, with_item};
+ghost use Rattle.cv_om.specs.SumValue.{added_item, with_item};
 
 use crate::error::OmErr;
 use crate::item::SumItem;
@@ -17,7 +17,7 @@ use std::marker::Model;
 
 /// The number of a unit.
 fn unit_number(unit: Unit) -> i64
-    ensures { result ≡ pos (unit_number_of unit) }
+    ensures { result ≡ pos (unit_number unit) }
 {
     unit as i64
 }
@@ -44,8 +44,8 @@ fn code_of(alloc: Global, units: &[(Unit, i64)]) -> Result<Vec<i64>, AllocError>
 
 /// Two items of equal unit maps, added.
 fn added_item(alloc: Global, s: &SumItem, t: &SumItem) -> Result<SumItem, OmErr>
-    ensures ok { IfOk result (λ sum. added_item_of s.now t.now ≡ Ok sum) }
-    ensures err { IfErr result (IsRefusal (added_item_of s.now t.now)) }
+    ensures ok { IfOk result (λ sum. added_item s.now t.now ≡ Ok sum) }
+    ensures err { IfErr result (IsRefusal (added_item s.now t.now)) }
 {
     match in_range(s.value.add(t.value)) {
         Ok(value) => {
@@ -59,8 +59,8 @@ fn added_item(alloc: Global, s: &SumItem, t: &SumItem) -> Result<SumItem, OmErr>
 
 /// An item with which another is added, or the other alone.
 fn sum_with(alloc: Global, found: Option<&SumItem>, item: SumItem) -> Result<SumItem, OmErr>
-    ensures ok { IfOk result (λ sum. sum_with_of (option_copied found.entry) item ≡ Ok sum) }
-    ensures err { IfErr result (IsRefusal (sum_with_of (option_copied found.entry) item)) }
+    ensures ok { IfOk result (λ sum. sum_with (option_copied found.entry) item ≡ Ok sum) }
+    ensures err { IfErr result (IsRefusal (sum_with (option_copied found.entry) item)) }
 {
     match found {
         Some(first) => added_item(alloc, first, &item),

@@ -2,8 +2,8 @@
 
 ghost use Rattle.std.specs.Prelude.{◌≡◌, [], ◌∷◌, ◌++◌, map, OnOk, OnErr, IfOk, IfErr};
 ghost use Rattle.cv_spec_text.specs.Printing.{bytes};
-ghost use Rattle.cv_simplify.specs.Text.{operator as operator_of};
-ghost use Rattle.cv_om.specs.Text.{prefix, has_brackets as brackets_at, front, back, number_placed, negative_front, negative_back, inverse_front, inverse_back, call_front, row_tokens, written, numeric_text};
+ghost use Rattle.cv_simplify.specs.Text.{operator};
+ghost use Rattle.cv_om.specs.Text.{prefix, has_brackets, front, back, number_placed, negative_front, negative_back, inverse_front, inverse_back, call_front, row_tokens, written, numeric_text};
 
 use crate::error::OmErr;
 use crate::numeric::Numeric;
@@ -36,7 +36,7 @@ fn push_prefix(out: &mut Vec<Token>, place: Place) -> Result<(), AllocError>
 
 /// Whether a sum, a product, a negative or an inverse has brackets of its own.
 fn has_brackets(place: Place) -> bool
-    ensures { result ≡ brackets_at place }
+    ensures { result ≡ has_brackets place }
 {
     match place {
         Place::Operand => true,
@@ -97,7 +97,7 @@ fn push_sign(
     number: &[u8],
     sign: char,
 ) -> Result<(), AllocError>
-    ensures { OnOk result (out.new.items ≡ out.old.items ++ (front place ++ Token.Number number.now ∷ operator_of sign)) }
+    ensures { OnOk result (out.new.items ≡ out.old.items ++ (front place ++ Token.Number number.now ∷ operator sign)) }
 {
     push_front(out, place)?;
     out.push(Token::Number(name_of(alloc, number)?))?;

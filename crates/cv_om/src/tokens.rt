@@ -2,7 +2,7 @@
 
 ghost use Rattle.std.specs.Prelude.{◌≡◌, [], ◌∷◌, ◌++◌, decimal, IfOk, OnOk};
 ghost use Rattle.std.specs.Fmt.{signed_decimal};
-ghost use Rattle.cv_simplify.specs.Text.{numeric as numeric_of, operator as operator_of, decimal_tokens, quotient_tokens, number_tokens, number_alone as number_alone_of};
+ghost use Rattle.cv_simplify.specs.Text.{numeric, operator, decimal_tokens, quotient_tokens, number_tokens, number_alone};
 ghost use Rattle.cv_om.specs.Text.{opening_of, closing_of};
 
 use cv_calc::{Unit, unit_name};
@@ -24,7 +24,7 @@ pub(crate) fn name_of(alloc: Global, bytes: &[u8]) -> Result<Name, AllocError>
 
 /// A number with its unit.
 fn numeric(alloc: Global, spelling: Name, unit: Unit) -> Result<Token, AllocError>
-    ensures { IfOk result (λ token. token ≡ numeric_of spelling unit) }
+    ensures { IfOk result (λ token. token ≡ numeric spelling unit) }
 {
     if unit == Unit::Number {
         Ok(Token::Number(spelling))
@@ -38,7 +38,7 @@ fn numeric(alloc: Global, spelling: Name, unit: Unit) -> Result<Token, AllocErro
 
 /// Adds a sign with a space on both sides.
 pub(crate) fn push_operator(out: &mut Vec<Token>, sign: char) -> Result<(), AllocError>
-    ensures { OnOk result (out.new.items ≡ out.old.items ++ operator_of sign) }
+    ensures { OnOk result (out.new.items ≡ out.old.items ++ operator sign) }
 {
     out.push(Token::White)?;
     out.push(Token::Delim(sign))?;
@@ -78,7 +78,7 @@ fn decimal_token(alloc: Global, v: Frac, unit: Unit) -> Result<Token, AllocError
 
 /// The token of the number over the bottom of a number.
 fn top(alloc: Global, v: Frac, unit: Unit) -> Result<Token, AllocError>
-    ensures { IfOk result (λ token. token ≡ numeric_of (signed_decimal v.top) unit) }
+    ensures { IfOk result (λ token. token ≡ numeric (signed_decimal v.top) unit) }
 {
     let mut buffer = Buffer::new();
     let spelling = name_of(alloc, buffer.format(v.top()).as_bytes())?;
@@ -137,7 +137,7 @@ pub(crate) fn push_number_alone(
     v: Frac,
     unit: Unit,
 ) -> Result<(), AllocError>
-    ensures { OnOk result (out.new.items ≡ out.old.items ++ number_alone_of v unit) }
+    ensures { OnOk result (out.new.items ≡ out.old.items ++ number_alone v unit) }
 {
     match v.places() {
         Some(_) => {

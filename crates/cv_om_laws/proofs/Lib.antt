@@ -3,3 +3,4 @@ pub mod Scaled
 pub mod Turned
 pub mod Valued
 pub mod Values
+pub mod Wholes
