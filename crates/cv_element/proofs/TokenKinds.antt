@@ -3,7 +3,7 @@ use Rattle.std.proofs.Common.{◌≡◌, ℕ, false, List, [], ◌∷◌, None, 
 use Rattle.cv_spec_text.specs.declared.token.Token.{Token}
 use Rattle.cv_spec_text.specs.declared.token.Token.TheVariants.{Ident, Function, At, Hash, Str, BadStr, Url, BadUrl, Delim, Number, Percentage, Dimension, White, Cdo, Cdc, Colon, Semicolon, Comma, Open, Close}
 use Rattle.cv_component.specs.TopLevel.{trim_front}
-use Rattle.cv_props.specs.Valuations.{is_keyword}
+use Rattle.cv_valuation.specs.Valuations.{is_keyword}
 use Rattle.cv_element.specs.Element.{is_white, keyword}
 use Rattle.cv_element.specs.Answers.{word_of}
 

@@ -12,7 +12,7 @@ use Rattle.cv_spec_element.specs.Words.{Words}
 use Rattle.cv_spec_element.specs.Words as words
 use Rattle.cv_component.specs.TopLevel.{trim_front, trim_end}
 use Rattle.cv_var.specs.References.{is_var, has_var}
-use Rattle.cv_props.specs.Valuations.{trim}
+use Rattle.cv_valuation.specs.Valuations.{trim}
 use Rattle.cv_element.specs.Element.{is_white, keyword}
 use Rattle.cv_element.proofs.TokenKinds.{Stays, white_or_not}
 

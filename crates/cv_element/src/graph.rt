@@ -3,7 +3,7 @@
 ghost use Rattle.std.specs.Prelude.{◌≡◌, ◌≢◌, ◌↔◌, ◌<◌, ◌≤◌, ◌⊎◌, ℕ, List, [], Contains, length, eqb, IfOk, OnOk, bytes_eq};
 ghost use Rattle.std.specs.List.{IsDistinct};
 ghost use Rattle.cv_graph.specs.Edges.{targets, most_targets, edge_count, HasEdge};
-ghost use Rattle.cv_props.specs.declared.key.Key.TheVariants.{Custom};
+ghost use Rattle.cv_valuation.specs.declared.key.Key.TheVariants.{Custom};
 ghost use Rattle.cv_props.specs.Winners.{declaration_of};
 ghost use Rattle.cv_element.specs.Counting.{references_in, reference_count};
 ghost use Rattle.cv_element.specs.Names.{name_at, Connects, IsNumbered, IsReference};

@@ -1,8 +1,8 @@
 //! What is computed of an element is single.
 
 ghost use Rattle.std.specs.Prelude.{ℕ, Option};
-ghost use Rattle.cv_props.specs.declared.computed.Computed.{Computed};
-ghost use Rattle.cv_props.specs.Valuations.{Values};
+ghost use Rattle.cv_valuation.specs.declared.computed.Computed.{Computed};
+ghost use Rattle.cv_valuation.specs.Valuations.{Values};
 ghost use Rattle.cv_props.specs.Winners.{Declarations};
 ghost use Rattle.cv_element.specs.Element.{IsComputed};
 ghost use Rattle.cv_element.specs.Single.{HasOneResult, HoldNoKeyword, ParentHoldsNoKeyword};

@@ -3,7 +3,7 @@
 ghost use Rattle.std.specs.Prelude.{◌≡◌, ◌≤◌, ◌+◌, ℕ, List, Option, length, true, Contains, IfOk};
 ghost use Rattle.cv_spec_text.specs.Keywords.{is_custom};
 ghost use Rattle.cv_graph.specs.Edges.{most_targets};
-ghost use Rattle.cv_props.specs.Valuations.{Values};
+ghost use Rattle.cv_valuation.specs.Valuations.{Values};
 ghost use Rattle.cv_element.specs.Counting.{reference_count};
 ghost use Rattle.cv_element.specs.Settling.{IsPlan};
 

@@ -28,4 +28,4 @@ number_refused how e (c ∷ cs) = number_refused how e cs
 pub number_refused_at : (how : Joining) (cs : List Calc) (i : ℕ) (d : Calc) (v first : Ratio) (e : OmErr) → i < length cs → d ≡ get_or cs i d → number_joined how v (number_of d) ≡ Err e →
     fold (number_next how) (Ok v) (drop i cs) ≡ fold (number_next how) (Ok first) cs → Err e ≡ fold (number_next how) (Ok first) cs
 number_refused_at how cs i d v first e h is refused kept =
-    sym (number_refused how e (drop (i + 1) cs)) ∙ ap (λ r. fold (number_next how) r (drop (i + 1) cs)) (sym refused) ∙ ap (fold (number_next how) (Ok v)) (sym (front_at cs i d h is)) ∙ kept
+    sym (number_refused how e (drop (i + 1) cs)) ∙ ap (λ r. fold (number_next how) r (drop (i + 1) cs)) (sym refused) ∙ ap (fold (number_next how) (Ok v)) (sym (front_at cs i d d h is)) ∙ kept

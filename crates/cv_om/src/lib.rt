@@ -9,6 +9,8 @@ mod numeric;
 mod operations;
 mod place;
 mod turned;
+mod unit_factor;
+mod unit_map;
 
 pub use error::OmErr;
 pub use item::SumItem;

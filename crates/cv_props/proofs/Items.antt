@@ -6,12 +6,12 @@ use Rattle.std.proofs.lemmas.Grind.{flat_map-append}
 use Rattle.cv_spec_text.specs.Keywords.{is_custom}
 use Rattle.cv_component.specs.declared.items.Piece.{Piece}
 use Rattle.cv_props.specs.declared.decls.Decl.{Decl}
-use Rattle.cv_props.specs.declared.key.Key.{Key}
-use Rattle.cv_props.specs.declared.key.Key.TheVariants.{Custom, Table}
+use Rattle.cv_valuation.specs.declared.key.Key.{Key}
+use Rattle.cv_valuation.specs.declared.key.Key.TheVariants.{Custom, Table}
 use Rattle.cv_props.specs.declared.note.NotePlace.TheVariants.{Item}
 use Rattle.cv_props.specs.declared.note.Why.{Why}
 use Rattle.cv_property.specs.Table.{property_named}
-use Rattle.cv_props.specs.Keys.{is_custom_key, key_named}
+use Rattle.cv_valuation.specs.Keys.{is_custom_key, key_named}
 use Rattle.cv_props.specs.Kept.{declared_by_item, kept, kept_declarations, note_on, notes_on}
 use Rattle.cv_props.specs.Reading.{with_item}
 use Rattle.cv_props.specs.Winners.{winners}

@@ -1,7 +1,3 @@
-mod TableTest
-pub mod KeyOrder
-mod Outcomes
-mod Tries
 mod Entries
 mod Keeping
 mod Numbered

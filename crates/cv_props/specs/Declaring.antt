@@ -2,8 +2,8 @@
 use Rattle.std.specs.Prelude.{◌≡◌, true, not, ◌&&◌, if◌then◌else◌, Bool, false, Option, Some, None}
 use Rattle.indexmap.specs.IndexMap.{insert_entry}
 use Rattle.cv_props.specs.declared.decls.Decl.{Decl}
-use Rattle.cv_props.specs.declared.key.Key.{Key}
-use Rattle.cv_props.specs.Keys.{same_key, is_custom_key}
+use Rattle.cv_valuation.specs.declared.key.Key.{Key}
+use Rattle.cv_valuation.specs.Keys.{same_key, is_custom_key}
 use Rattle.cv_props.specs.Winners.{Declarations, declaration_of}
 
 -- The declaration may be kept: its key is a custom name (ordinary properties come with their grammars). That its value is checked

@@ -9,14 +9,14 @@ use Rattle.cv_component.specs.declared.items.Piece.TheVariants as pieces
 use Rattle.cv_var.specs.Values.{bad_place}
 use Rattle.cv_var.specs.References.{bad_var}
 use Rattle.cv_props.specs.declared.decls.Decl.{Decl}
-use Rattle.cv_props.specs.declared.key.Key.{Key}
+use Rattle.cv_valuation.specs.declared.key.Key.{Key}
 use Rattle.cv_props.specs.declared.note.Note.{Note}
 use Rattle.cv_props.specs.declared.note.NotePlace.{NotePlace}
 use Rattle.cv_props.specs.declared.note.NotePlace.TheVariants.{Item}
 use Rattle.cv_props.specs.declared.note.Why.{Why}
 use Rattle.cv_props.specs.declared.note.Why.TheVariants.{AtRule, NotDeclaration, UnknownProperty, TooDeep, BadValue, BadVar}
 use Rattle.cv_property.specs.Table.{property_named}
-use Rattle.cv_props.specs.Keys.{key_named}
+use Rattle.cv_valuation.specs.Keys.{key_named}
 
 -- the first reason for which a value is refused, if there is one
 unfoldable pub value_fault : List Token → Option Why

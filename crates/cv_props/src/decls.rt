@@ -5,11 +5,11 @@ ghost use Rattle.std.specs.List.{IsDistinct};
 ghost use Rattle.std.specs.Option.{option_copied};
 ghost use Rattle.std.specs.Map.{keys_of, remove_entry};
 ghost use Rattle.indexmap.specs.IndexMap.{insert_entry};
-ghost use Rattle.cv_props.specs.Keys.{same_key};
+ghost use Rattle.cv_valuation.specs.Keys.{same_key};
 ghost use Rattle.cv_props.specs.Winners.{declaration_of};
 ghost use Rattle.cv_props.specs.Declaring.{IsDeclaredEntry, MayDeclare, is_important, with_declaration};
 
-use crate::key::Key;
+use cv_valuation::Key;
 use cv_var::Declared;
 use indexmap::IndexMap;
 use std::alloc::{AllocError, Global};

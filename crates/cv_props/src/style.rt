@@ -4,38 +4,21 @@ ghost use Rattle.std.specs.Prelude.{◌≡◌, ◌++◌, ◌<◌, ◌≤◌, fal
 ghost use Rattle.cv_spec_text.specs.Splits.{IsSpelt};
 ghost use Rattle.cv_component.specs.Items.{items};
 ghost use Rattle.cv_props.specs.Declaring.{MayDeclare};
-ghost use Rattle.cv_props.specs.Keys.{key_named};
+ghost use Rattle.cv_valuation.specs.Keys.{key_named};
 ghost use Rattle.cv_property.specs.Table.{property_named};
 ghost use Rattle.cv_props.specs.Kept.{DeclareCustomAlone, declared_by, declared_by_item, declare_ordinary, declares_ordinary, kept_declarations, note_on, notes_on, value_fault};
 ghost use Rattle.cv_props.specs.Reading.{IsIgnored, IsRefused, IsSpeltItem, with_item};
 ghost use Rattle.cv_props.specs.Winners.{winners};
 
 use crate::decls::{Decl, Decls};
-use crate::key::Key;
 use crate::note::{Note, NotePlace, Why};
+use crate::refusal::Refusal;
 use cv_component::{Piece, declarations};
 use cv_property::property_named;
 use cv_spec_text::{Name, Token};
+use cv_valuation::Key;
 use cv_var::{Declared, VarErr, check};
 use std::alloc::{AllocError, Global};
-
-// Why an item isn't kept.
-#[derive(Clone, Copy, Debug)]
-enum Refusal {
-    Ignored(Why),
-    Memory,
-}
-
-impl From<AllocError> for Refusal {
-    ghost use Rattle.std.specs.Prelude.{◌≡◌};
-    ghost use Rattle.cv_props.specs.declared.style.Refusal.{Refusal};
-
-    ghost from_gives = { λ _ refusal. refusal ≡ Refusal.Memory };
-
-    fn from(_error: AllocError) -> Self {
-        Refusal::Memory
-    }
-}
 
 impl Decls {
     /// The winning declarations of an element's style, and a note on each item that is ignored, in order. No item may declare

@@ -5,8 +5,8 @@ use Rattle.std.specs.List.{slice_get, slice_index_or}
 use Rattle.std.proofs.lemmas.Option.{slice_get_within}
 use Rattle.cv_doc.specs.declared.elements.Elem.{Elem}
 use Rattle.cv_doc.specs.Kept.{IsParentOf, IsTree}
-use Rattle.cv_props.specs.declared.computed.Computed.{Computed}
-use Rattle.cv_props.specs.Valuations.{Values}
+use Rattle.cv_valuation.specs.declared.computed.Computed.{Computed}
+use Rattle.cv_valuation.specs.Valuations.{Values}
 use Rattle.cv_element.specs.Element.{IsComputed}
 use Rattle.cv_run.specs.Styles.{declarations_of}
 use Rattle.cv_run.specs.Tree.{IsOfElement, parent_values}

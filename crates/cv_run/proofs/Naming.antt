@@ -12,8 +12,8 @@ use Rattle.cv_spec_text.specs.Keywords.{is_custom}
 use Rattle.cv_doc.specs.declared.command.Command.{Command}
 use Rattle.cv_doc.specs.Members.{is_name}
 use Rattle.cv_props.specs.declared.decls.Decl.{Decl}
-use Rattle.cv_props.specs.declared.key.Key.{Key}
-use Rattle.cv_props.specs.Keys.{key_named, same_key}
+use Rattle.cv_valuation.specs.declared.key.Key.{Key}
+use Rattle.cv_valuation.specs.Keys.{key_named, same_key}
 use Rattle.cv_props.specs.Winners.{Declarations}
 use Rattle.cv_run.specs.Names.{AreNames, keys_in, name_of_command, name_of_key, named_keys, names_counted, with_names}
 

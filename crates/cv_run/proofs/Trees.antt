@@ -6,9 +6,9 @@ use Rattle.std.proofs.lemmas.Option.{slice_get_within}
 use Rattle.cv_doc.specs.declared.elements.Elem.{Elem}
 use Rattle.cv_doc.specs.Kept.{IsParentOf, IsTree}
 use Rattle.cv_doc.specs.Reading.{Shape}
-use Rattle.cv_props.specs.declared.computed.Computed.{Computed}
-use Rattle.cv_props.specs.TableLaws.{PropertiesAreFound}
-use Rattle.cv_props.specs.Valuations.{Values}
+use Rattle.cv_valuation.specs.declared.computed.Computed.{Computed}
+use Rattle.cv_valuation.specs.TableLaws.{PropertiesAreFound}
+use Rattle.cv_valuation.specs.Valuations.{Values}
 use Rattle.cv_props.specs.Winners.{Declarations}
 use Rattle.cv_report.specs.Report.{notes_text, report_text}
 use Rattle.cv_element.specs.Element.{IsComputed}

@@ -8,9 +8,9 @@ use Rattle.cv_doc.specs.declared.command.Command.{Command}
 use Rattle.cv_doc.specs.declared.command.Command.TheVariants as command
 use Rattle.cv_doc.specs.Members.{is_name}
 use Rattle.cv_doc.specs.Reading.{Shape}
-use Rattle.cv_props.specs.declared.key.Key.{Key}
-use Rattle.cv_props.specs.declared.key.Key.TheVariants.{Custom, Table}
-use Rattle.cv_props.specs.Keys.{key_named, same_key}
+use Rattle.cv_valuation.specs.declared.key.Key.{Key}
+use Rattle.cv_valuation.specs.declared.key.Key.TheVariants.{Custom, Table}
+use Rattle.cv_valuation.specs.Keys.{key_named, same_key}
 use Rattle.cv_props.specs.Winners.{Declarations}
 use Rattle.cv_run.specs.Styles.{declarations_of}
 

@@ -3,7 +3,7 @@ use Rattle.std.specs.Prelude.{ℕ, ◌≡◌, List}
 use Rattle.std.specs.List.{AllZip}
 use Rattle.cv_doc.specs.declared.elements.Elem.{Elem}
 use Rattle.cv_doc.specs.Reading.{Shape}
-use Rattle.cv_props.specs.declared.computed.Computed.{Computed}
+use Rattle.cv_valuation.specs.declared.computed.Computed.{Computed}
 use Rattle.cv_element.specs.Single.{TellsTheSame}
 use Rattle.cv_run.specs.Tree.{AreComputed, IsReport}
 

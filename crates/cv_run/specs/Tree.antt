@@ -2,8 +2,8 @@
 use Rattle.std.specs.Prelude.{ℕ, ◌≡◌, List, length, slice_get, Option, Some, None, option_map}
 use Rattle.cv_doc.specs.declared.elements.Elem.{Elem}
 use Rattle.cv_doc.specs.Reading.{Shape}
-use Rattle.cv_props.specs.declared.computed.Computed.{Computed}
-use Rattle.cv_props.specs.Valuations.{Values}
+use Rattle.cv_valuation.specs.declared.computed.Computed.{Computed}
+use Rattle.cv_valuation.specs.Valuations.{Values}
 use Rattle.cv_report.specs.Report.{report_text}
 use Rattle.cv_element.specs.Element.{IsComputed}
 use Rattle.cv_run.specs.Names.{shown_of}

@@ -1,7 +1,7 @@
 -- One step of the walk over the tree.
 use Rattle.std.specs.Prelude.{ℕ, ◌≡◌, ◌<◌, ◌≤◌, ◌++◌, All, [], ◌∷◌, length, slice_get, Option, Some, IfOk, IfSome, Result, ⊤}
 use Rattle.std.specs.declared.alloc.AllocError.{AllocError}
-use Rattle.cv_props.specs.declared.computed.Computed.{Computed}
+use Rattle.cv_valuation.specs.declared.computed.Computed.{Computed}
 use Rattle.cv_props.specs.Winners.{Declarations}
 use Rattle.cv_element.specs.Element.{AreKept, IsComputed}
 use Rattle.cv_run.specs.Telling.{AreFew}

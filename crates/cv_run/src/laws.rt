@@ -5,7 +5,7 @@ ghost use Rattle.cv_doc.specs.declared.elements.Elem.{Elem};
 ghost use Rattle.cv_doc.specs.Kept.{IsTree};
 ghost use Rattle.cv_doc.specs.Members.{is_name};
 ghost use Rattle.cv_doc.specs.Reading.{Shape};
-ghost use Rattle.cv_props.specs.Keys.{key_named};
+ghost use Rattle.cv_valuation.specs.Keys.{key_named};
 ghost use Rattle.cv_run.specs.Names.{named_keys};
 ghost use Rattle.cv_run.specs.Outcome.{IsText};
 ghost use Rattle.cv_run.specs.Single.{HasOneReport, HaveOneResult};

@@ -7,7 +7,7 @@ ghost use Rattle.std.specs.Option.{option_copied};
 ghost use Rattle.indexmap.specs.IndexSet.{insert_all, insert_key};
 ghost use Rattle.cv_spec_text.specs.Keywords.{is_custom};
 ghost use Rattle.cv_doc.specs.Members.{is_name};
-ghost use Rattle.cv_props.specs.Keys.{same_key};
+ghost use Rattle.cv_valuation.specs.Keys.{same_key};
 ghost use Rattle.cv_run.specs.Names.{AreNames, first_seen, is_ordinary, keys_in, name_of_command, name_of_key, named_keys, names_counted, names_in, names_shown, with_names};
 
 use crate::laws::shown_names_are_keys;

@@ -2,6 +2,7 @@
 #![tactic(auto)]
 
 pub mod error;
+mod fonts;
 mod laws;
 mod list;
 mod many;
@@ -11,8 +12,10 @@ mod text;
 pub mod typed;
 
 pub use error::ValueErr;
+pub use fonts::has_font_unit;
 pub use laws::mismatch_is_alike;
 pub use matching::match_syntax;
+pub use single::mixed_item;
 pub use std::alloc::AllocError as OutOfMemory;
 pub use text::typed_tokens;
 pub use typed::{Item, Typed};

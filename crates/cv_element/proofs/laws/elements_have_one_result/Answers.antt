@@ -1,6 +1,6 @@
-use Rattle.cv_props.specs.declared.key.Key.TheVariants.{Table}
+use Rattle.cv_valuation.specs.declared.key.Key.TheVariants.{Table}
 use Rattle.cv_property.specs.declared.property.Property.TheVariants.{FontSize}
-use Rattle.cv_props.specs.Keys.{same_key}
+use Rattle.cv_valuation.specs.Keys.{same_key}
 use Rattle.cv_element.specs.Element.{declared_in, is_white, keyword, lists_in, the_element}
 use Rattle.cv_element.proofs.Inherited.{hold_none, loosely_lawful}
 use Rattle.cv_element.proofs.Single.{has_one_result}

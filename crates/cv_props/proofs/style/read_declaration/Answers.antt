@@ -1,5 +1,5 @@
 use Rattle.std.proofs.Common.{ap, sym, ◌∙◌}
-use Rattle.cv_props.specs.Keys.{key_named}
+use Rattle.cv_valuation.specs.Keys.{key_named}
 use Rattle.cv_props.proofs.Items.{custom_key}
 use Rattle.cv_props.proofs.style.read_declaration.Goals as goal
 

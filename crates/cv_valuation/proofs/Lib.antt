@@ -1,0 +1,4 @@
+mod TableTest
+pub mod KeyOrder
+mod Outcomes
+mod Tries
