@@ -130,10 +130,7 @@ fn negative_entry(entry: &(Unit, i64)) -> Option<(Unit, i64)>
 }
 
 /// The map of a reciprocal.
-pub(crate) fn inverse_powers(
-    alloc: Global,
-    a: &[(Unit, i64)],
-) -> Result<Items<(Unit, i64)>, OmErr>
+pub(crate) fn inverse_powers(alloc: Global, a: &[(Unit, i64)]) -> Result<Items<(Unit, i64)>, OmErr>
     ensures ok { IfOk result (λ units. inverse_powers_of a.now ≡ Ok units) }
     ensures err { IfErr result (IsRefusal (inverse_powers_of a.now)) }
 {

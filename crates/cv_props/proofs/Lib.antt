@@ -3,4 +3,10 @@ mod Keeping
 mod Numbered
 mod Items
 mod Split
+mod Said
+mod Naming
+mod Places
+mod Registering
+mod Syntaxes
+mod Universal
 mod Few

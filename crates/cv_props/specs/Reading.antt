@@ -2,7 +2,6 @@
 use Rattle.std.specs.Prelude.{◌≡◌, All, Option, Some, Result, Ok, Err}
 use Rattle.cv_spec_text.specs.Splits.{IsSpelt}
 use Rattle.cv_component.specs.declared.items.Piece.{Piece}
-use Rattle.cv_component.specs.declared.items.Piece.TheVariants as pieces
 use Rattle.cv_component.specs.declared.sheet.Rule.{Rule}
 use Rattle.cv_component.specs.declared.sheet.Rule.TheVariants as rules
 use Rattle.cv_props.specs.declared.decls.Decl.{Decl}
@@ -23,11 +22,6 @@ IsRefused fault Memory = Unit {0}
 abbrev pub IsIgnored : {A : Type 0} → Result A Why → Refusal → Type 0
 IsIgnored declared (Ignored why) = declared ≡ Err why
 IsIgnored declared Memory = Unit {0}
-
--- the tokens of the item's value are spelt
-abbrev pub IsSpeltItem : Piece → Type 0
-IsSpeltItem (pieces.Decl name value important) = All IsSpelt value
-IsSpeltItem _ = Unit {0}
 
 -- the tokens of the rule's block are spelt
 abbrev pub IsSpeltRule : Rule → Type 0

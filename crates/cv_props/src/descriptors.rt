@@ -4,7 +4,7 @@ ghost use Rattle.std.specs.Prelude.{◌≡◌, map, codes, IfOk};
 ghost use Rattle.std.specs.Option.{option_copied};
 ghost use Rattle.cv_component.specs.Shared.{piece_of};
 ghost use Rattle.cv_syntax.specs.Strings.{syntax};
-ghost use Rattle.cv_props.specs.Registration.{descriptor, inherits_in, initial_in, last_said, right, said_inherits, said_syntax, syntax_in, truth};
+ghost use Rattle.cv_props.specs.Registration.{descriptor, first_or, inherits_in, initial_in, last_said, right, said_inherits, said_syntax, syntax_in, truth};
 
 use cv_component::SharedPiece;
 use cv_spec_text::{Name, Run, Token};
@@ -112,6 +112,16 @@ fn inherits_in(piece: &SharedPiece) -> Option<bool>
     }
 }
 
+// The later if there is one, else the earlier.
+fn later<T: Drop>(later: Option<T>, earlier: Option<T>) -> Option<T>
+    ensures { result ≡ first_or later earlier }
+{
+    match later {
+        Some(later) => Some(later),
+        None => earlier,
+    }
+}
+
 /// The syntax that the last descriptor says that is a syntax string.
 pub(crate) fn last_syntax(
     alloc: Global,
@@ -121,9 +131,7 @@ pub(crate) fn last_syntax(
 {
     let mut last = None;
     for piece in block {
-        if let Some(syntax) = syntax_in(alloc, piece)? {
-            last = Some(syntax);
-        }
+        last = later(syntax_in(alloc, piece)?, last);
     }
     Ok(last)
 }
@@ -134,9 +142,7 @@ pub(crate) fn last_inherits(block: &[SharedPiece]) -> Option<bool>
 {
     let mut last = None;
     for piece in block {
-        if let Some(inherits) = inherits_in(piece) {
-            last = Some(inherits);
-        }
+        last = later(inherits_in(piece), last);
     }
     last
 }
@@ -147,9 +153,7 @@ pub(crate) fn last_initial(block: &[SharedPiece]) -> Option<&Run>
 {
     let mut last = None;
     for piece in block {
-        if let Some(value) = initial_in(piece) {
-            last = Some(value);
-        }
+        last = later(initial_in(piece), last);
     }
     last
 }

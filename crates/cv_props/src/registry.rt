@@ -14,7 +14,8 @@ ghost use Rattle.cv_props.specs.Sheets.{ignored, notes_on_rules, registered, reg
 
 use crate::entry::Entry;
 use crate::note::{Note, NotePlace};
-use crate::registration::{Refusal, read_rule, viewport};
+use crate::refusal::Refusal;
+use crate::registration::{read_rule, viewport};
 use cv_calc::Context;
 use cv_component::{Rule, rules};
 use cv_spec_text::{Name, Token};
@@ -35,6 +36,11 @@ impl Model for Registry {
 
     ghost Value = { Registered };
 
+    ghost use Rattle.std.specs.Coded.{coded_list, coded×, coded_ℕ};
+    ghost use Rattle.cv_props.specs.contracts.entry.Entry as of_entry;
+
+    ghost coded = { coded_list (coded× (coded_list coded_ℕ) of_entry.the_row.coded) };
+
     ghost view = { λ registry. registry.entries.entries };
 
     ghost invariant = { λ registry. All IsRegistered registry.entries.entries };
@@ -54,6 +60,7 @@ impl Registry {
         ensures entries { IfOk result (λ sheet. (name : List ℕ) → entry_of sheet.0 name ≡ registered (viewport width height) (rules tokens.now) name) }
         ensures order { IfOk result (λ sheet. keys_of sheet.0 ≡ registered_names (viewport width height) (rules tokens.now)) }
         ensures notes { IfOk result (λ sheet. sheet.1.items ≡ notes_on_rules (viewport width height) (rules tokens.now)) }
+        ensures valid { IfOk result (λ sheet. AreEntries sheet.0) }
     {
         let all = rules(alloc, tokens)?;
         of_rules(alloc, &viewport(width, height), &all)
@@ -120,6 +127,7 @@ fn of_rules(alloc: Global, x: &Context, all: &[Rule]) -> Result<(Registry, Vec<N
     ensures entries { IfOk result (λ sheet. (name : List ℕ) → entry_of sheet.0 name ≡ registered x.now all.now name) }
     ensures order { IfOk result (λ sheet. keys_of sheet.0 ≡ registered_names x.now all.now) }
     ensures notes { IfOk result (λ sheet. sheet.1.items ≡ notes_on_rules x.now all.now) }
+    ensures valid { IfOk result (λ sheet. AreEntries sheet.0) }
 {
     let mut entries = IndexMap::new(alloc);
     let mut notes = Vec::new(alloc);
