@@ -2,16 +2,14 @@
 use Rattle.std.specs.Prelude.{Bool, true, false, ◌||◌, ℤ, pos, negsuc, zero, suc, neg_ℤ, ◌+ℤ◌, unsigned_abs, nat_lt, ◌^◌, List, [], ◌∷◌, map, fold, Option, Some, None, if◌then◌else◌}
 use Rattle.std.specs.Option.{option_and_then}
 use Rattle.std.proofs.Common.{◌≡◌, refl, sym, ◌∙◌, ap}
-use Rattle.cv_spec_ratio.specs.Ratio.{Ratio}
 use Rattle.cv_calc.specs.declared.unit.Unit as units
 use Rattle.cv_calc.specs.declared.unit.Unit.TheVariants.{Number}
 use Rattle.cv_calc.specs.declared.unit.Base.{Base}
 use Rattle.cv_calc.specs.declared.unit.Base.TheVariants.{Length, Angle, Time, Frequency, Resolution, Flex}
 use Rattle.cv_calc.specs.declared.unit.NumType.{NumType}
 use Rattle.cv_calc.specs.declared.calc.Calc.{Calc}
-use Rattle.cv_calc.specs.declared.calc.Calc.TheVariants.{Num, Sum, Product, Negate, Invert, Min, Max, Clamp}
 use Rattle.cv_calc.specs.Tree.{Each, by_cases, fold-Num, fold-Sum, fold-Product, fold-Negate, fold-Invert, fold-Min, fold-Max, fold-Clamp}
-use Rattle.cv_calc.specs.Types.{power_fits, if_fits, within, powers, no_powers, unit_type, moved, hinted, with_hint, shared, same_powers, has_percent, if_same, tried, else_tried, tried_all, added_alike, added, added_next, multiplied, multiplied_next, sum_type, shared_hint, product_under, product_type, negated, type_of, type_step}
+use Rattle.cv_calc.specs.Types.{power_fits, within, powers, no_powers, unit_type, moved, hinted, with_hint, shared, same_powers, has_percent, if_same, tried, else_tried, tried_all, added_alike, added, added_next, multiplied, multiplied_next, sum_type, shared_hint, product_under, product_type, negated, type_of, type_step}
 use Rattle.cv_calc.specs.Linear.{has_type}
 
 -- the powers of the type, if there is one, are in bounds

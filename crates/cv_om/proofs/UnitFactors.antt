@@ -1,5 +1,5 @@
 -- What one of a unit is in the unit to which it converts is in bounds.
-use Rattle.std.specs.Prelude.{Bool, true, false, pos, Result, Ok, Err, if◌then◌else◌}
+use Rattle.std.specs.Prelude.{true, false, pos, Result, Ok, Err, if◌then◌else◌}
 use Rattle.std.proofs.Common.{◌≡◌, refl, sym, ◌∙◌, ap, ap₂}
 use Rattle.cv_spec_ratio.specs.Gcd.{gcd, gcd_steps}
 use Rattle.cv_spec_ratio.specs.Ratio.{Ratio, ratio, mul, one_ratio}

@@ -1,6 +1,6 @@
 -- The arithmetic of numeric values (CSS Typed OM 1, "Common Numeric Operations, and the CSSNumericValue Superclass"). A *single* value is
 -- a number with its unit. The bounds of fractions are this project's own.
-use Rattle.std.specs.Prelude.{Bool, true, false, List, [], ◌∷◌, ◌++◌, fold, Result, Ok, Err, Option, Some, None, if◌then◌else◌}
+use Rattle.std.specs.Prelude.{List, [], ◌∷◌, ◌++◌, fold, Result, Ok, Err, Option, Some, None, if◌then◌else◌}
 use Rattle.cv_spec_ratio.specs.Ratio.{Ratio, add, mul, neg, reciprocal, zero_ratio}
 use Rattle.cv_spec_ratio.specs.Order.{lesser, greater}
 use Rattle.cv_frac.specs.Bounded.{bounded}

@@ -1,10 +1,10 @@
 //! Values that are joined, negated and inverted.
 
 ghost use Rattle.std.specs.Prelude.{◌≡◌, [], ◌∷◌, ◌++◌, fold, Ok, true, IfOk, IfErr};
-ghost use Rattle.cv_calc.specs.Types.{type_of as kind_of};
+ghost use Rattle.cv_calc.specs.Types.{type_of};
 ghost use Rattle.cv_calc.specs.Linear.{has_type};
 ghost use Rattle.cv_om.specs.Refusal.{IsRefusal};
-ghost use Rattle.cv_om.specs.Arithmetic.{items as items_of, node as node_of, unit_of as unit_as_of, number_of as number_as_of, unit_next, number_next, whole_unit as whole_unit_of, whole_number as whole_number_of, typed as typed_of, united as united_of, joined as joined_of};
+ghost use Rattle.cv_om.specs.Arithmetic.{items, node, unit_of, number_of, unit_next, number_next, whole_unit, whole_number, typed, united, joined};
 
 use crate::error::OmErr;
 use crate::joining::{Joining, number_joined, unit_joined};
@@ -16,7 +16,7 @@ use std::slice::from_ref;
 
 /// The items that a receiver puts in front of the argument: those of a node of the same kind, else the receiver itself.
 fn items(how: Joining, c: &Calc) -> &[Calc]
-    ensures { result.now ≡ items_of how c.now }
+    ensures { result.now ≡ items how c.now }
 {
     match how {
         Joining::Sum => match c {
@@ -40,7 +40,7 @@ fn items(how: Joining, c: &Calc) -> &[Calc]
 
 /// The unit of a single value.
 fn unit_of(c: &Calc) -> Option<Unit>
-    ensures { result ≡ unit_as_of c.now }
+    ensures { result ≡ unit_of c.now }
 {
     match c {
         Calc::Num(_, unit) => Some(*unit),
@@ -51,7 +51,7 @@ fn unit_of(c: &Calc) -> Option<Unit>
 /// The number of a single value.
 #[tactic(auto, unfolding(cv_spec_ratio::specs::Ratio::zero_ratio))]
 fn number_of(c: &Calc) -> Frac
-    ensures { result ≡ number_as_of c.now }
+    ensures { result ≡ number_of c.now }
 {
     match c {
         Calc::Num(value, _) => *value,
@@ -87,7 +87,7 @@ fn number_after(how: Joining, first: Frac, rest: &[Calc]) -> Result<Frac, OmErr>
 /// The unit of all values together, where all are single.
 #[tactic(auto, using(crate::proofs::Joined::whole_unit_split))]
 fn whole_unit(how: Joining, front: &[Calc], last: &Calc) -> Option<Unit>
-    ensures { result ≡ whole_unit_of how (front.now ++ last.now ∷ []) }
+    ensures { result ≡ whole_unit how (front.now ++ last.now ∷ []) }
 {
     match front.split_first() {
         None => unit_of(last),
@@ -101,7 +101,7 @@ fn whole_unit(how: Joining, front: &[Calc], last: &Calc) -> Option<Unit>
 /// The numbers of single values, joined from the left.
 #[tactic(auto, using(crate::proofs::Joined::whole_number_split))]
 fn whole_number(how: Joining, front: &[Calc], last: &Calc) -> Result<Frac, OmErr>
-    ensures { result ≡ whole_number_of how (front.now ++ last.now ∷ []) }
+    ensures { result ≡ whole_number how (front.now ++ last.now ∷ []) }
 {
     match front.split_first() {
         None => Ok(number_of(last)),
@@ -113,9 +113,9 @@ fn whole_number(how: Joining, front: &[Calc], last: &Calc) -> Result<Frac, OmErr
 }
 
 /// A calculation that has a type.
-fn typed(c: Calc) -> Result<Calc, OmErr>
-    ensures answer { result ≡ typed_of c }
-    ensures has_type { IfOk result (λ d. has_type (kind_of d) ≡ true) }
+pub(crate) fn typed(c: Calc) -> Result<Calc, OmErr>
+    ensures answer { result ≡ typed c }
+    ensures has_type { IfOk result (λ d. has_type (type_of d) ≡ true) }
 {
     match type_of(&c) {
         Some(_) => Ok(c),
@@ -125,7 +125,7 @@ fn typed(c: Calc) -> Result<Calc, OmErr>
 
 /// All values as the children of a node.
 fn node(alloc: Global, how: Joining, front: &[Calc], last: &Calc) -> Result<Calc, AllocError>
-    ensures { IfOk result (λ c. c ≡ node_of how (front.now ++ last.now ∷ [])) }
+    ensures { IfOk result (λ c. c ≡ node how (front.now ++ last.now ∷ [])) }
 {
     let mut children = Items::new(alloc);
     for child in front {
@@ -149,9 +149,9 @@ fn united(
     last: &Calc,
     unit: Option<Unit>,
 ) -> Result<Calc, OmErr>
-    ensures ok { IfOk result (λ c. united_of how (front.now ++ last.now ∷ []) unit ≡ Ok c) }
-    ensures err { IfErr result (IsRefusal (united_of how (front.now ++ last.now ∷ []) unit)) }
-    ensures has_type { IfOk result (λ c. has_type (kind_of c) ≡ true) }
+    ensures ok { IfOk result (λ c. united how (front.now ++ last.now ∷ []) unit ≡ Ok c) }
+    ensures err { IfErr result (IsRefusal (united how (front.now ++ last.now ∷ []) unit)) }
+    ensures has_type { IfOk result (λ c. has_type (type_of c) ≡ true) }
 {
     match unit {
         Some(unit) => match whole_number(how, front, last) {
@@ -168,9 +168,9 @@ fn united(
 /// A value and another, joined.
 #[tactic(auto, unfolding(crate::specs::Arithmetic::joined))]
 pub(crate) fn joined(alloc: Global, how: Joining, a: &Calc, b: &Calc) -> Result<Calc, OmErr>
-    ensures ok { IfOk result (λ c. joined_of how a.now b.now ≡ Ok c) }
-    ensures err { IfErr result (IsRefusal (joined_of how a.now b.now)) }
-    ensures has_type { IfOk result (λ c. has_type (kind_of c) ≡ true) }
+    ensures ok { IfOk result (λ c. joined how a.now b.now ≡ Ok c) }
+    ensures err { IfErr result (IsRefusal (joined how a.now b.now)) }
+    ensures has_type { IfOk result (λ c. has_type (type_of c) ≡ true) }
 {
     let front = items(how, a);
     let unit = whole_unit(how, front, b);

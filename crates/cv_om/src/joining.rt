@@ -1,9 +1,9 @@
 //! How numeric values are joined.
 
 ghost use Rattle.std.specs.Prelude.{◌≡◌};
-ghost use Rattle.cv_spec_ratio.specs.Order.{lesser as lesser_of, greater as greater_of};
-ghost use Rattle.cv_om.specs.Arithmetic.{one_unit as one_unit_of, times_unit as times_unit_of, unit_joined as unit_joined_of, number_joined as number_joined_of};
-ghost use Rattle.cv_om.specs.Refusal.{in_range as in_range_of};
+ghost use Rattle.cv_spec_ratio.specs.Order.{lesser, greater};
+ghost use Rattle.cv_om.specs.Arithmetic.{one_unit, times_unit, unit_joined, number_joined};
+ghost use Rattle.cv_om.specs.Refusal.{in_range};
 
 use crate::error::OmErr;
 use cv_calc::Unit;
@@ -11,7 +11,7 @@ use cv_frac::{Frac, FracErr};
 
 /// Values are added or multiplied, or the least or the greatest of them is taken.
 #[derive(Clone, Copy)]
-pub(crate) enum Joining {
+pub enum Joining {
     Sum,
     Product,
     Least,
@@ -20,7 +20,7 @@ pub(crate) enum Joining {
 
 /// A fraction that has to be in bounds.
 pub(crate) fn in_range(found: Result<Frac, FracErr>) -> Result<Frac, OmErr>
-    ensures { result ≡ in_range_of found }
+    ensures { result ≡ in_range found }
 {
     match found {
         Ok(value) => Ok(value),
@@ -30,21 +30,21 @@ pub(crate) fn in_range(found: Result<Frac, FracErr>) -> Result<Frac, OmErr>
 
 /// The lesser of two fractions.
 pub(crate) fn lesser(v: Frac, w: Frac) -> Frac
-    ensures { result ≡ lesser_of v w }
+    ensures { result ≡ lesser v w }
 {
     if v <= w { v } else { w }
 }
 
 /// The greater of two fractions.
 pub(crate) fn greater(v: Frac, w: Frac) -> Frac
-    ensures { result ≡ greater_of v w }
+    ensures { result ≡ greater v w }
 {
     if v <= w { w } else { v }
 }
 
 /// The one unit of two single values.
 fn one_unit(u: Option<Unit>, t: Option<Unit>) -> Option<Unit>
-    ensures { result ≡ one_unit_of u t }
+    ensures { result ≡ one_unit u t }
 {
     let first = u?;
     let second = t?;
@@ -53,7 +53,7 @@ fn one_unit(u: Option<Unit>, t: Option<Unit>) -> Option<Unit>
 
 /// The unit of the product of two single values, of which at most one isn't a plain number.
 fn times_unit(u: Option<Unit>, t: Option<Unit>) -> Option<Unit>
-    ensures { result ≡ times_unit_of u t }
+    ensures { result ≡ times_unit u t }
 {
     let first = u?;
     let second = t?;
@@ -68,7 +68,7 @@ fn times_unit(u: Option<Unit>, t: Option<Unit>) -> Option<Unit>
 
 /// The unit of two single values together.
 pub(crate) fn unit_joined(how: Joining, u: Option<Unit>, t: Option<Unit>) -> Option<Unit>
-    ensures { result ≡ unit_joined_of how u t }
+    ensures { result ≡ unit_joined how u t }
 {
     match how {
         Joining::Sum => one_unit(u, t),
@@ -80,7 +80,7 @@ pub(crate) fn unit_joined(how: Joining, u: Option<Unit>, t: Option<Unit>) -> Opt
 
 /// Two numbers together.
 pub(crate) fn number_joined(how: Joining, v: Frac, w: Frac) -> Result<Frac, OmErr>
-    ensures { result ≡ number_joined_of how v w }
+    ensures { result ≡ number_joined how v w }
 {
     match how {
         Joining::Sum => in_range(v.add(w)),

@@ -1,7 +1,7 @@
 //! The numeric value.
 
 ghost use Rattle.std.specs.Prelude.{◌≡◌, true, IfOk};
-ghost use Rattle.cv_calc.specs.Types.{type_of as kind_of};
+ghost use Rattle.cv_calc.specs.Types.{type_of};
 ghost use Rattle.cv_calc.specs.Linear.{has_type};
 ghost use Rattle.cv_om.specs.Numeric.{numeric_of};
 
@@ -45,7 +45,7 @@ impl Numeric {
     /// The calculation, which has a type.
     pub fn tree(&self) -> &Calc
         ensures tree { result.now ≡ self.now }
-        ensures has_type { has_type (kind_of self.now) ≡ true }
+        ensures has_type { has_type (type_of self.now) ≡ true }
     {
         &self.tree
     }
@@ -61,7 +61,7 @@ impl Numeric {
 
     /// The numeric value of a calculation that has a type.
     pub(crate) fn typed(tree: Calc) -> Numeric
-        requires { has_type (kind_of tree) ≡ true }
+        requires { has_type (type_of tree) ≡ true }
         ensures { result ≡ tree }
     {
         Numeric { tree }

@@ -2,7 +2,7 @@
 
 /// As the first within a sum or product, alone or as the first argument, or after a sign or a comma.
 #[derive(Clone, Copy)]
-pub(crate) enum Place {
+pub enum Place {
     Operand,
     Whole,
     Added,

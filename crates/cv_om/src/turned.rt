@@ -1,11 +1,11 @@
 //! Values that are negated or inverted.
 
 ghost use Rattle.std.specs.Prelude.{◌≡◌, true, Ok, IfOk, IfErr};
-ghost use Rattle.cv_calc.specs.Types.{type_of as kind_of};
+ghost use Rattle.cv_calc.specs.Types.{type_of};
 ghost use Rattle.cv_calc.specs.Linear.{has_type};
 ghost use Rattle.cv_spec_ratio.specs.Ratio.{reciprocal};
 ghost use Rattle.cv_om.specs.Refusal.{IsRefusal};
-ghost use Rattle.cv_om.specs.Arithmetic.{negated as negative_of, inverse_number as inverse_number_of, inverse_of};
+ghost use Rattle.cv_om.specs.Arithmetic.{negated, inverse_number, inverse_of};
 
 use crate::error::OmErr;
 use cv_calc::{Calc, Unit};
@@ -16,7 +16,7 @@ use std::alloc::{AllocError, Global};
 /// The negative of a value.
 #[tactic(auto, unfolding(crate::specs::Arithmetic::negated))]
 fn negated(alloc: Global, c: &Calc) -> Result<Calc, AllocError>
-    ensures { IfOk result (λ d. d ≡ negative_of c.now) }
+    ensures { IfOk result (λ d. d ≡ negated c.now) }
 {
     match c {
         Calc::Num(value, unit) => Ok(Calc::Num(value.neg(), *unit)),
@@ -28,16 +28,16 @@ fn negated(alloc: Global, c: &Calc) -> Result<Calc, AllocError>
 /// The negative of a value that has a type, which has it too.
 #[tactic(auto, using(crate::proofs::Types::negative_has_type))]
 pub(crate) fn negative(alloc: Global, c: &Calc) -> Result<Calc, AllocError>
-    requires { has_type (kind_of c.now) ≡ true }
-    ensures value { IfOk result (λ d. d ≡ negative_of c.now) }
-    ensures has_type { IfOk result (λ d. has_type (kind_of d) ≡ true) }
+    requires { has_type (type_of c.now) ≡ true }
+    ensures value { IfOk result (λ d. d ≡ negated c.now) }
+    ensures has_type { IfOk result (λ d. has_type (type_of d) ≡ true) }
 {
     negated(alloc, c)
 }
 
 /// The reciprocal of a plain number.
 fn inverse_number(value: Frac) -> Result<Calc, OmErr>
-    ensures { result ≡ inverse_number_of (reciprocal value) }
+    ensures { result ≡ inverse_number (reciprocal value) }
 {
     match value.reciprocal() {
         Some(inverse) => Ok(Calc::Num(inverse, Unit::Number)),
@@ -74,10 +74,10 @@ fn inverted(alloc: Global, c: &Calc) -> Result<Calc, OmErr>
 /// The reciprocal of a value that has a type, which has one too.
 #[tactic(auto, using(crate::proofs::Types::inverse_has_type))]
 pub(crate) fn inverse(alloc: Global, c: &Calc) -> Result<Calc, OmErr>
-    requires { has_type (kind_of c.now) ≡ true }
+    requires { has_type (type_of c.now) ≡ true }
     ensures ok { IfOk result (λ d. inverse_of c.now ≡ Ok d) }
     ensures err { IfErr result (IsRefusal (inverse_of c.now)) }
-    ensures has_type { IfOk result (λ d. has_type (kind_of d) ≡ true) }
+    ensures has_type { IfOk result (λ d. has_type (type_of d) ≡ true) }
 {
     inverted(alloc, c)
 }

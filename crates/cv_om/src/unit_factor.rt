@@ -4,8 +4,8 @@ ghost use Rattle.std.specs.Prelude.{◌≡◌};
 ghost use Rattle.cv_calc.specs.Factor.{sizes_of};
 ghost use Rattle.cv_frac.specs.Bounded.{bounded, quotient_of};
 ghost use Rattle.cv_spec_ratio.specs.Ratio.{mul};
-ghost use Rattle.cv_om.specs.Refusal.{in_range as in_range_of};
-ghost use Rattle.cv_om.specs.UnitMap.{is_relative as is_relative_of, no_sizes, sum_unit as sum_unit_of, sum_factor as sum_factor_of};
+ghost use Rattle.cv_om.specs.Refusal.{in_range};
+ghost use Rattle.cv_om.specs.UnitMap.{is_relative, no_sizes, sum_unit, sum_factor};
 
 use crate::error::OmErr;
 use crate::joining::in_range;
@@ -14,7 +14,7 @@ use cv_frac::Frac;
 
 /// Whether a context alone says what a unit stands for.
 fn is_relative(unit: Unit) -> bool
-    ensures { result ≡ is_relative_of unit }
+    ensures { result ≡ is_relative unit }
 {
     match unit {
         Unit::Em
@@ -47,8 +47,8 @@ fn no_context() -> Context
 /// What one of a unit is in the unit to which it converts, which is in bounds, and that unit.
 #[tactic(auto, using(crate::proofs::UnitFactors::conversions))]
 fn conversion(unit: Unit) -> (Frac, Unit)
-    ensures factor { result.0 ≡ sum_factor_of unit }
-    ensures unit { result.1 ≡ sum_unit_of unit }
+    ensures factor { result.0 ≡ sum_factor unit }
+    ensures unit { result.1 ≡ sum_unit unit }
 {
     if is_relative(unit) {
         return (Frac::whole(1), unit);
@@ -61,21 +61,21 @@ fn conversion(unit: Unit) -> (Frac, Unit)
 
 /// The unit of a sum value to which a unit converts.
 pub(crate) fn sum_unit(unit: Unit) -> Unit
-    ensures { result ≡ sum_unit_of unit }
+    ensures { result ≡ sum_unit unit }
 {
     conversion(unit).1
 }
 
 /// A number of a unit in the unit to which it converts.
 pub(crate) fn converted(value: Frac, unit: Unit) -> Result<Frac, OmErr>
-    ensures { result ≡ in_range_of (bounded (mul value (sum_factor_of unit))) }
+    ensures { result ≡ in_range (bounded (mul value (sum_factor unit))) }
 {
     in_range(value.mul(conversion(unit).0))
 }
 
 /// A number of the unit to which a unit converts in that unit.
 pub(crate) fn in_unit(value: Frac, unit: Unit) -> Result<Frac, OmErr>
-    ensures { result ≡ in_range_of (quotient_of value (sum_factor_of unit)) }
+    ensures { result ≡ in_range (quotient_of value (sum_factor unit)) }
 {
     in_range(value.div(conversion(unit).0))
 }

@@ -1,9 +1,9 @@
 //! The unit maps of items.
 
 ghost use Rattle.std.specs.Prelude.{◌≡◌, ◌+ℤ◌, neg_ℤ, ◌++◌, Ok, OnOk, IfOk, IfErr};
-ghost use Rattle.cv_calc.specs.Types.{power_fits as fits_of, power_of};
+ghost use Rattle.cv_calc.specs.Types.{power_fits, power_of};
 ghost use Rattle.cv_om.specs.Refusal.{IsRefusal};
-ghost use Rattle.cv_om.specs.UnitMap.{power_in as power_in_of, power_sum as power_sum_of, entry, product_powers as product_powers_of, inverse_powers as inverse_powers_of, negative_entry as negative_entry_of, same_powers as same_powers_of, unit_powers as unit_powers_of};
+ghost use Rattle.cv_om.specs.UnitMap.{power_in, power_sum, entry, product_powers, inverse_powers, negative_entry, same_powers, unit_powers};
 
 use crate::error::OmErr;
 use crate::unit_factor::sum_unit;
@@ -50,7 +50,7 @@ const LIMIT: u128 = 0x8000_0000_0000_0000;
 
 /// Whether a power is in bounds.
 fn power_fits(power: i128) -> bool
-    ensures { result ≡ fits_of power }
+    ensures { result ≡ power_fits power }
 {
     power.unsigned_abs() < LIMIT
 }
@@ -68,7 +68,7 @@ fn in_bounds(power: i128) -> Option<i64>
 
 /// The power of a unit in a map.
 fn power_in(units: &[(Unit, i64)], unit: Unit) -> i64
-    ensures { result ≡ power_in_of units.now unit }
+    ensures { result ≡ power_in units.now unit }
 {
     for (found, power) in units {
         if *found == unit {
@@ -87,7 +87,7 @@ fn sum_in_bounds(a: i64, b: i64) -> Option<i64>
 
 /// The power of a unit in the product of two maps, which has to be in bounds.
 fn power_product(a: &[(Unit, i64)], b: &[(Unit, i64)], unit: Unit) -> Option<i64>
-    ensures { result ≡ power_of (power_sum_of a.now b.now unit) }
+    ensures { result ≡ power_of (power_sum a.now b.now unit) }
 {
     sum_in_bounds(power_in(a, unit), power_in(b, unit))
 }
@@ -108,8 +108,8 @@ pub(crate) fn product_powers(
     a: &[(Unit, i64)],
     b: &[(Unit, i64)],
 ) -> Result<Items<(Unit, i64)>, OmErr>
-    ensures ok { IfOk result (λ units. product_powers_of a.now b.now ≡ Ok units) }
-    ensures err { IfErr result (IsRefusal (product_powers_of a.now b.now)) }
+    ensures ok { IfOk result (λ units. product_powers a.now b.now ≡ Ok units) }
+    ensures err { IfErr result (IsRefusal (product_powers a.now b.now)) }
 {
     let mut units = Items::new(alloc);
     for unit in &UNITS {
@@ -123,19 +123,16 @@ pub(crate) fn product_powers(
 
 /// An entry with the negative power, which has to be in bounds.
 fn negative_entry(entry: &(Unit, i64)) -> Option<(Unit, i64)>
-    ensures { result ≡ negative_entry_of entry.now }
+    ensures { result ≡ negative_entry entry.now }
 {
     let power = in_bounds(-i128::from(entry.1))?;
     Some((entry.0, power))
 }
 
 /// The map of a reciprocal.
-pub(crate) fn inverse_powers(
-    alloc: Global,
-    a: &[(Unit, i64)],
-) -> Result<Items<(Unit, i64)>, OmErr>
-    ensures ok { IfOk result (λ units. inverse_powers_of a.now ≡ Ok units) }
-    ensures err { IfErr result (IsRefusal (inverse_powers_of a.now)) }
+pub(crate) fn inverse_powers(alloc: Global, a: &[(Unit, i64)]) -> Result<Items<(Unit, i64)>, OmErr>
+    ensures ok { IfOk result (λ units. inverse_powers a.now ≡ Ok units) }
+    ensures err { IfErr result (IsRefusal (inverse_powers a.now)) }
 {
     let mut units = Items::new(alloc);
     for entry in a {
@@ -149,14 +146,14 @@ pub(crate) fn inverse_powers(
 
 /// Whether two maps are equal.
 pub(crate) fn same_powers(a: &[(Unit, i64)], b: &[(Unit, i64)]) -> bool
-    ensures { result ≡ same_powers_of a.now b.now }
+    ensures { result ≡ same_powers a.now b.now }
 {
     a == b
 }
 
 /// The map of one of a unit: a number has no units.
 pub(crate) fn unit_powers(alloc: Global, unit: Unit) -> Result<Items<(Unit, i64)>, AllocError>
-    ensures { IfOk result (λ units. units ≡ unit_powers_of unit) }
+    ensures { IfOk result (λ units. units ≡ unit_powers unit) }
 {
     let mut units = Items::new(alloc);
     if unit != Unit::Number {

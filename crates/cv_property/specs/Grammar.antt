@@ -1,7 +1,7 @@
 -- What a list is by the grammar of an ordinary property: what the first alternative says that it matches (CSS Values and Units 4, "Value
 -- Definition Syntax"). A list that is nested deeper than 128 matches none, and a match that is out of range ends the search, which are
 -- this project's own.
-use Rattle.std.specs.Prelude.{ℕ, encode_utf8_all, ℤ, Bool, true, false, pos, nat_lt, int_lt, ◌||◌, List, [], ◌∷◌, map, if◌then◌else◌}
+use Rattle.std.specs.Prelude.{ℕ, encode_utf8_all, ℤ, Bool, true, false, pos, nat_lt, int_lt, List, [], ◌∷◌, map, if◌then◌else◌}
 use Rattle.cv_spec_ratio.specs.Ratio.{Ratio}
 use Rattle.cv_frac.specs.Bounded.{in_bounds}
 use Rattle.cv_spec_text.specs.Characters.{hyphen, begins_with}
@@ -15,7 +15,6 @@ use Rattle.cv_calc.specs.declared.context.Context.{Context}
 use Rattle.cv_numeric.specs.declared.matched.Matched.{Matched}
 use Rattle.cv_numeric.specs.declared.matched.Matched.TheVariants.{No, Out, Fit}
 use Rattle.cv_numeric.specs.Matched.{mapped, first_of}
-use Rattle.cv_numeric.specs.Calculations.{is_null}
 use Rattle.cv_numeric.specs.Numeric as numeric
 use Rattle.cv_numeric.specs.Numeric.{with_basis}
 use Rattle.cv_colorread.specs.Channels.{hundredths}
@@ -47,14 +46,16 @@ counted_portion (Fit v) = if in_bounds (hundredths 1 v) then Fit (item_of.Percen
 abbrev pub at_least_one : ℤ → ℤ
 at_least_one n = if int_lt n (pos 1) then pos 1 else n
 
--- a whole number is below 1 where it has a minus or is 0
-abbrev pub is_below_one : List ℕ → Bool
-is_below_one n = begins_with hyphen (encode_utf8_all n) || is_null n
+-- a whole number below 1 is no match: of one that is out of bounds the sign tells it
+abbrev pub from_one : List ℕ → Matched ℤ → Matched ℤ
+from_one n No = No
+from_one n Out = if begins_with hyphen (encode_utf8_all n) then No else Out
+from_one n (Fit z) = if int_lt z (pos 1) then No else Fit z
 
 -- a whole number of at least 1: a smaller number is no match, and a smaller math function is 1 (CSS Values and Units 4, "Range
 -- Restrictions and Range Definition Notation")
 abbrev pub positive_integer_of : Context → List Token → Matched ℤ
-positive_integer_of x (token.Number n ∷ []) = if is_below_one n then No else numeric.whole_number n
+positive_integer_of x (token.Number n ∷ []) = from_one n (numeric.whole_number n)
 positive_integer_of x ts = mapped at_least_one (numeric.integer x ts)
 
 -- what a list is by one alternative

@@ -3,7 +3,6 @@
 ghost use Rattle.std.specs.Prelude.{◌≡◌, All, IfOk, Err, encode_utf8_all};
 ghost use Rattle.cv_spec_text.specs.Splits.{IsSpelt};
 ghost use Rattle.cv_spec_text.specs.Characters.{hyphen, begins_with};
-ghost use Rattle.cv_numeric.specs.Calculations.{is_null};
 ghost use Rattle.cv_numeric.specs.Numeric.{with_basis as based};
 ghost use Rattle.cv_colorread.specs.Channels.{counted, hundredths};
 ghost use Rattle.cv_property.specs.Grammar as grammar;
@@ -69,17 +68,6 @@ fn at_least_one(n: i64) -> i64
     if n < 1 { 1 } else { n }
 }
 
-// Whether a number is 0.
-#[tactic(auto, unfolding(cv_calcread::specs::Literals::is_in_range, cv_calcread::specs::Literals::exact_number))]
-fn is_zero(spelling: &Name) -> bool
-    ensures { result ≡ is_null spelling.now }
-{
-    match Frac::read_spelling(spelling) {
-        Ok(value) => value.top() == 0,
-        Err(_) => false,
-    }
-}
-
 fn bytes_of(spelling: &Name) -> &[u8]
     ensures { result.now ≡ encode_utf8_all spelling.now }
 {
@@ -92,11 +80,21 @@ fn has_minus(spelling: &[u8]) -> bool
     matches!(spelling, [b'-', ..])
 }
 
-// Whether a whole number is below 1.
-fn is_below_one(spelling: &Name) -> bool
-    ensures { result ≡ grammar.is_below_one spelling.now }
+// A whole number, if it isn't below 1.
+fn from_one(spelling: &Name, found: Matched<i64>) -> Matched<i64>
+    ensures { result ≡ grammar.from_one spelling.now found }
 {
-    has_minus(bytes_of(spelling)) || is_zero(spelling)
+    match found {
+        Matched::No => Matched::No,
+        Matched::Out => {
+            if has_minus(bytes_of(spelling)) {
+                Matched::No
+            } else {
+                Matched::Out
+            }
+        }
+        Matched::Fit(n) => { if n < 1 { Matched::No } else { Matched::Fit(n) } }
+    }
 }
 
 // A whole number of at least 1.
@@ -107,15 +105,10 @@ fn positive_integer(
 ) -> Result<Matched<i64>, AllocError>
     ensures { IfOk result (λ o. o ≡ grammar.positive_integer_of x.now tokens.now) }
 {
+    let found = integer(alloc, tokens, x)?;
     match tokens {
-        [Token::Number(n)] => {
-            if is_below_one(n) {
-                Ok(Matched::No)
-            } else {
-                integer(alloc, tokens, x)
-            }
-        }
-        _ => Ok(integer(alloc, tokens, x)?.map(|n| at_least_one(n))),
+        [Token::Number(n)] => Ok(from_one(n, found)),
+        _ => Ok(found.map(|n| at_least_one(n))),
     }
 }
 

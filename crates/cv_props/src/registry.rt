@@ -13,7 +13,7 @@ ghost use Rattle.cv_valuation.specs.declared.key.Key as keys;
 ghost use Rattle.cv_valuation.specs.Starts.{table_initial};
 ghost use Rattle.cv_valuation.specs.Valuations.{outcome_at};
 ghost use Rattle.cv_props.specs.Registration.{registration, viewport};
-ghost use Rattle.cv_props.specs.Sheets.{ignored, notes_on_rules, registered, registered_names, with_registration};
+ghost use Rattle.cv_props.specs.Sheets.{ignored, notes_on_rules, registered, registered_names, registry_of, with_registration};
 
 use crate::entry::Entry;
 use crate::note::{Note, NotePlace};
@@ -65,6 +65,7 @@ impl Registry {
         requires few { length tokens.now < 4294967288 }
         ensures entries { IfOk result (λ sheet. (name : List ℕ) → entry_of sheet.0 name ≡ registered (viewport width height) (rules tokens.now) name) }
         ensures order { IfOk result (λ sheet. keys_of sheet.0 ≡ registered_names (viewport width height) (rules tokens.now)) }
+        ensures registry { IfOk result (λ sheet. sheet.0 ≡ registry_of (viewport width height) (rules tokens.now)) }
         ensures notes { IfOk result (λ sheet. sheet.1.items ≡ notes_on_rules (viewport width height) (rules tokens.now)) }
         ensures valid { IfOk result (λ sheet. AreEntries sheet.0) }
     {
@@ -140,6 +141,7 @@ fn of_rules(alloc: Global, x: &Context, all: &[Rule]) -> Result<(Registry, Vec<N
     requires few { length all.now < 4294967288 }
     ensures entries { IfOk result (λ sheet. (name : List ℕ) → entry_of sheet.0 name ≡ registered x.now all.now name) }
     ensures order { IfOk result (λ sheet. keys_of sheet.0 ≡ registered_names x.now all.now) }
+    ensures registry { IfOk result (λ sheet. sheet.0 ≡ registry_of x.now all.now) }
     ensures notes { IfOk result (λ sheet. sheet.1.items ≡ notes_on_rules x.now all.now) }
     ensures valid { IfOk result (λ sheet. AreEntries sheet.0) }
 {

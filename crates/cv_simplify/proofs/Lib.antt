@@ -4,6 +4,8 @@ pub mod Bounds
 pub mod Canonical
 pub mod CleanTexts
 pub mod Divisors
+pub mod FigureSteps
+pub mod Figured
 pub mod Firsts
 pub mod Folds
 pub mod InRange
@@ -32,6 +34,7 @@ pub mod SumKinds
 pub mod SumRange
 pub mod Texts
 pub mod TreeKinds
+pub mod TypedParts
 pub mod TypesKept
 pub mod UnitKinds
 pub mod UnitOrder

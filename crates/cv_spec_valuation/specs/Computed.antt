@@ -51,10 +51,13 @@ IsOfKind registered key (kept.Tokens list) = is_loose registered key ≡ true
 IsOfKind registered key (kept.Value value) = is_loose registered key ≡ false
 IsOfKind registered key kept.Invalid = is_loose registered key ≡ true
 
--- the outcomes are such as may be kept, and stand under the registry
-pub record StandUnder (registered : Registered) (values : Values) : Type 0 where
-  pub kept : (key : Key) → MayKeep key (outcome_at values key)
-  pub of_kind : (key : Key) → IsOfKind registered key (outcome_at values key)
+-- the outcome may be kept for the key, and is of its kind
+abbrev pub MayStand : Registered → Key → Kept → Type 0
+MayStand registered key outcome = MayKeep key outcome × IsOfKind registered key outcome
+
+-- the values stand under the registry
+abbrev pub StandUnder : Registered → Values → Type 0
+StandUnder registered values = (key : Key) → MayStand registered key (outcome_at values key)
 
 abbrev pub ParentStandsUnder : Registered → Option Values → Type 0
 ParentStandsUnder registered None = Unit {0}

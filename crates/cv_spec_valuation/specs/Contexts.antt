@@ -1,6 +1,6 @@
 -- What relative units stand for where a property of an element is read, and what a list is there (Values and Units 4,
 -- "Relative Lengths").
-use Rattle.std.specs.Prelude.{ℕ, Bool, true, false, pos, List, Option, Some, None}
+use Rattle.std.specs.Prelude.{pos, List, Option, Some, None}
 use Rattle.cv_spec_text.specs.declared.token.Token.{Token}
 use Rattle.cv_spec_ratio.specs.Ratio.{Ratio, ratio}
 use Rattle.cv_calc.specs.declared.context.Basis.TheVariants.{Plain}
@@ -15,7 +15,6 @@ use Rattle.cv_value.specs.Matching.{matching}
 use Rattle.cv_property.specs.declared.property.Property.{Property}
 use Rattle.cv_property.specs.declared.property.Property.TheVariants.{FontSize}
 use Rattle.cv_property.specs.Table.{initial_of}
-use Rattle.cv_property.specs.Table as table
 use Rattle.cv_property.specs.Grammar.{matching_property}
 use Rattle.cv_property.specs.Computed.{computed_of}
 use Rattle.cv_spec_element.specs.Element.{Matched, no, out, fit}

@@ -1,5 +1,5 @@
 -- The element with these declarations, this parent and this place, as the equations read it.
-use Rattle.std.specs.Prelude.{ℕ, ◌≡◌, Bool, true, false, if◌then◌else◌, List, codes, Option, Some, None, is_none}
+use Rattle.std.specs.Prelude.{ℕ, if◌then◌else◌, List, codes, Option, Some, None, is_none}
 use Rattle.std.specs.Map.{keys_of}
 use Rattle.cv_spec_text.specs.Keywords.{is_word}
 use Rattle.cv_spec_text.specs.declared.token.Token.{Token}

@@ -10,3 +10,4 @@ pub mod GivenColors
 pub mod Colors
 pub mod Items
 pub mod Typed
+mod Sized

@@ -7,7 +7,7 @@ use Rattle.cv_spec_ratio.specs.Ratio.{Ratio, ratio, zero_ratio, one_ratio, mul}
 use Rattle.cv_spec_ratio.specs.Order.{at_most}
 use Rattle.cv_frac.specs.Bounded.{in_bounds}
 use Rattle.cv_calc.specs.declared.unit.Unit as units
-use Rattle.cv_calc.specs.declared.unit.Unit.TheVariants.{Px, Dppx, X, Dpi, Dpcm}
+use Rattle.cv_calc.specs.declared.unit.Unit.TheVariants.{Number, Px, Dppx, X, Dpi, Dpcm}
 use Rattle.cv_calc.specs.declared.context.Basis.TheVariants as basis
 use Rattle.cv_calc.specs.declared.context.Context.{Context}
 use Rattle.cv_calc.specs.declared.calc.Calc.{Calc}
@@ -52,8 +52,9 @@ pub record IsIn (r : Range) (v : Ratio) : Type 0 where
 pub data HasRange (q : Quantity) (r : Range) : Type 0 where
   whole : r ≡ All → HasRange q r
   resolution : q ≡ quantity.Resolution → HasRange q r
+  number : q ≡ quantity.Number → HasRange q r
 
-zero_inside : (r : Range) → IsInside r zero_ratio
+pub zero_inside : (r : Range) → IsInside r zero_ratio
 zero_inside All = tt
 zero_inside NotNegative = zero_natural
 
@@ -61,15 +62,15 @@ chosen_small : (b : Bool) (v w : Ratio) → in_bounds v ≡ true → in_bounds w
 chosen_small true v w h k = h
 chosen_small false v w h k = k
 
-clamped_small : (r : Range) (v : Ratio) → in_bounds v ≡ true → in_bounds (clamped r v) ≡ true
+pub clamped_small : (r : Range) (v : Ratio) → in_bounds v ≡ true → in_bounds (clamped r v) ≡ true
 clamped_small All v h = h
 clamped_small NotNegative v h = chosen_small (at_most v zero_ratio) zero_ratio v zero_small h
 
-layer_clamped : (r : Range) (c : Calc) (l : layer.Calc-F Calc) → out-Calc c ≡ l → in_bounds (value_as l) ≡ true → IsIn r (value_of (clamped_as r c l))
+pub layer_clamped : (r : Range) (c : Calc) (l : layer.Calc-F Calc) → out-Calc c ≡ l → in_bounds (value_as l) ≡ true → IsIn r (value_of (clamped_as r c l))
 layer_clamped r c (layer.Num v u) e h = subst (IsIn r) (sym (value_is (clamped r v) u)) (record { small = clamped_small r v h; inside = clamped_inside r v })
 layer_clamped r c l e h = subst (λ (m : layer.Calc-F Calc). IsIn r (value_as m)) (sym e) (record { small = zero_small; inside = zero_inside r })
 
-product_number : (v w : Ratio) (u : units.Unit) → IsNatural v → IsNatural w → IsNatural (value_of (tree.Num (mul v w) u))
+pub product_number : (v w : Ratio) (u : units.Unit) → IsNatural v → IsNatural w → IsNatural (value_of (tree.Num (mul v w) u))
 product_number v w u h k = subst IsNatural (sym (value_is (mul v w) u)) (product_natural v w h k)
 
 -- a resolution that isn't negative isn't so in its canonical unit
@@ -88,7 +89,7 @@ not_true : (b : Bool) → not b ≡ true → b ≡ false
 not_true true h = cc
 not_true false h = refl
 
-spelt_natural : (n : List ℕ) → is_in_range n ≡ true → is_within NotNegative n ≡ true → IsNatural (exact_number n)
+pub spelt_natural : (n : List ℕ) → is_in_range n ≡ true → is_within NotNegative n ≡ true → IsNatural (exact_number n)
 spelt_natural n small h = sym (signs.negative_is n (spells_number n small)) ∙ not_true (is_negative n) h
 
 token_inside : (r : Range) (x : Context) (n : List ℕ) (u : units.Unit) → takes quantity.Resolution (unit_type u) ≡ true → is_in_range n ≡ true → is_within r n ≡ true →
@@ -96,10 +97,21 @@ token_inside : (r : Range) (x : Context) (n : List ℕ) (u : units.Unit) → tak
 token_inside All x n u t small h = tt
 token_inside NotNegative x n u t small h = subst (λ (c : Calc). IsNatural (value_of c)) (sym (simple_number x (exact_number n) u)) (resolution_natural x (exact_number n) u t (spelt_natural n small h))
 
+number_natural : (x : Context) (v : Ratio) (u : units.Unit) → takes quantity.Number (unit_type u) ≡ true → IsNatural v → IsNatural (value_of (number_in x v u))
+unfolding one_ratio
+number_natural x v Number t h = product_number v one_ratio Number h (pair_natural 1 1 (omega arith))
+number_natural x v _ t h = absurd cc
+
+number_inside : (r : Range) (x : Context) (n : List ℕ) (u : units.Unit) → takes quantity.Number (unit_type u) ≡ true → is_in_range n ≡ true → is_within r n ≡ true →
+    IsInside r (value_of (simp_of x (tree.Num (exact_number n) u)))
+number_inside All x n u t small h = tt
+number_inside NotNegative x n u t small h = subst (λ (c : Calc). IsNatural (value_of c)) (sym (simple_number x (exact_number n) u)) (number_natural x (exact_number n) u t (spelt_natural n small h))
+
 source_inside : (q : Quantity) (r : Range) → HasRange q r → (x : Context) (n : List ℕ) (u : units.Unit) → takes q (unit_type u) ≡ true → is_in_range n ≡ true → is_within r n ≡ true →
     IsInside r (value_of (simp_of x (tree.Num (exact_number n) u)))
 source_inside q r (whole e) x n u t small h = subst (λ (s : Range). IsInside s (value_of (simp_of x (tree.Num (exact_number n) u)))) (sym e) tt
 source_inside q r (resolution e) x n u t small h = token_inside r x n u (ap (λ (p : Quantity). takes p (unit_type u)) (sym e) ∙ t) small h
+source_inside q r (number e) x n u t small h = number_inside r x n u (ap (λ (p : Quantity). takes p (unit_type u)) (sym e) ∙ t) small h
 
 source_in : (q : Quantity) (r : Range) → HasRange q r → (x : Context) (ts : List Token) (c : Calc) → Source q r x ts c → IsIn r (value_of c)
 source_in q r has x ts c (one n u t within small counted same) =

@@ -1,7 +1,7 @@
 //! The laws.
 
-ghost use Rattle.cv_value_roundtrip.specs.Numbers.{NumbersAreRead};
-ghost use Rattle.cv_value_roundtrip.specs.ReadsBack.{ItemsReadBack};
+ghost use Rattle.cv_value_roundtrip.specs.Numbers.{NumbersAreRead, RangesAreKept};
+ghost use Rattle.cv_value_roundtrip.specs.ReadsBack.{ItemsReadBack, SizesReadBack};
 ghost use Rattle.cv_value_roundtrip.specs.Typed.{TypedValuesReadBack};
 
 /// The text of a number is that number to each quantity that takes its unit: `0.5px` is a half pixel, and `calc(1px / 3)`, which has no
@@ -22,4 +22,16 @@ pub fn items_read_back()
 /// Values API 1, "Calculation of Computed Values").
 pub fn typed_values_read_back()
     ensures { TypedValuesReadBack }
+{}
+
+/// The text of a number within a range is that number within the range, and so is that of a number of px as a length or percentage (CSS
+/// Values and Units 4, "Range Restrictions and Range Definition Notation").
+pub fn ranges_are_kept()
+    ensures { RangesAreKept }
+{}
+
+/// The text of a length or percentage within a range reads back as an equal one within the range, in every context, where the sizes of fonts
+/// that it was read with aren't negative (CSSOM, "Serializing CSS Values").
+pub fn sizes_read_back()
+    ensures { SizesReadBack }
 {}

@@ -3,4 +3,6 @@
 
 mod laws;
 
-pub use laws::{items_read_back, numbers_are_read, typed_values_read_back};
+pub use laws::{
+    items_read_back, numbers_are_read, ranges_are_kept, sizes_read_back, typed_values_read_back,
+};

@@ -1,4 +1,4 @@
-use Rattle.std.proofs.Common.{sym, ◌∙◌, ap, ap₂}
+use Rattle.std.proofs.Common.{sym, ◌∙◌}
 use Rattle.cv_om.proofs.UnitFactors.{found_factor, found_always}
 use Rattle.cv_om.proofs.unit_factor.conversion.Goals as goal
 

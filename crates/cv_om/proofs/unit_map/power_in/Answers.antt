@@ -1,4 +1,4 @@
-use Rattle.std.proofs.Common.{rules, ◌≡◌, pos, get_or, refl, sym, ◌∙◌, ap, w64, to_z, of_z}
+use Rattle.std.proofs.Common.{rules, pos, get_or, refl, sym, ◌∙◌, w64}
 use Rattle.std.proofs.lemmas.Int.{to_z-of_z}
 use Rattle.cv_calc.specs.declared.unit.Unit.TheVariants.{Number}
 use Rattle.cv_om.proofs.UnitMaps.{power_here, power_later, power_none}

@@ -1,8 +1,8 @@
-use Rattle.cv_run.proofs.Trees.{one_report, one_valuation}
+use Rattle.cv_run.proofs.Reporting.{one_report, only_report}
 use Rattle.cv_run.proofs.laws.documents_have_one_report.Goals as goal
 
-pub returns-clause-valuation : goal.returns-clause-valuation
-returns-clause-valuation c = λ elements limit tree. one_valuation (record { one_result = c.elements_have_one_result.ensures.one_result; no_keyword = c.elements_have_one_result.ensures.no_keyword }) elements limit tree
-
 pub returns-clause-report : goal.returns-clause-report
-returns-clause-report c = λ document limit tree. one_report (record { one_result = c.elements_have_one_result.ensures.one_result; no_keyword = c.elements_have_one_result.ensures.no_keyword }) c.properties_are_found.ensures document limit tree
+returns-clause-report c = λ document limit is_tree ranged. one_report (record { one_result = c.elements_have_one_result.ensures.one_result; stand = c.elements_have_one_result.ensures.stand; one_valuation = c.elements_have_one_result.ensures.one_valuation }) c.outcomes_are_by_key.ensures c.properties_are_found.ensures document limit is_tree ranged
+
+pub returns-clause-only : goal.returns-clause-only
+returns-clause-only c = λ document limit is_tree text is. only_report (record { one_result = c.elements_have_one_result.ensures.one_result; stand = c.elements_have_one_result.ensures.stand; one_valuation = c.elements_have_one_result.ensures.one_valuation }) c.outcomes_are_by_key.ensures c.properties_are_found.ensures document limit is_tree text is

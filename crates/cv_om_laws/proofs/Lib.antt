@@ -1,0 +1,6 @@
+pub mod Joined
+pub mod Scaled
+pub mod Turned
+pub mod Valued
+pub mod Values
+pub mod Wholes

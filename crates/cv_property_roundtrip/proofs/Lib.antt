@@ -1,0 +1,5 @@
+mod Premises
+mod Skipping
+mod Backs
+mod Grammars
+mod Properties
