@@ -96,6 +96,6 @@ module _ (tree : Tree) (most : ℕ) where
           let named : c ≡ computed = sym last.1 in
           subst (λ (vs : List Values). IsOfElement tree most vs above declared computed) (sym (values_more all c))
           (element_stays (values_in all) c.values above declared computed (few j above (omega (arith, last.0)) at.under)
-            (subst (λ (x : Computed). IsOfElement tree most (values_in all) above declared x) named
-              (subst (λ (d : Declarations). IsOfElement tree most (values_in all) above d c) same_decls
-                (subst (λ (p : Option ℕ). IsOfElement tree most (values_in all) p decls c) same fresh))))
+          (subst (λ (x : Computed). IsOfElement tree most (values_in all) above declared x) named
+          (subst (λ (d : Declarations). IsOfElement tree most (values_in all) above d c) same_decls
+          (subst (λ (p : Option ℕ). IsOfElement tree most (values_in all) p decls c) same fresh))))

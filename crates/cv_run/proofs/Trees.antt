@@ -1,14 +1,13 @@
 -- What is computed of a tree is single.
 use Rattle.std.proofs.Common.{◌≡◌, ℕ, zero, suc, ◌+◌, ◌<◌, ◌≤◌, List, [], ◌∷◌, ◌++◌, length, Option, Some, None, inl, inr, ◌⊎◌, refl, sym, ◌∙◌, ap, subst, arith, length-append}
-use Rattle.std.specs.Prelude.{map}
-use Rattle.std.specs.List.{AllZip, slice_get}
-use Rattle.std.proofs.lemmas.Option.{slice_get_within, slice_get-map}
+use Rattle.std.specs.List.{All, AllZip, slice_get, slice_index_or}
+use Rattle.std.proofs.lemmas.Option.{slice_get_within}
 use Rattle.cv_spec_text.specs.declared.token.Token.{Token}
 use Rattle.cv_spec_ratio.specs.Ratio.{Ratio}
 use Rattle.cv_value.specs.declared.typed.Typed.{Typed}
 use Rattle.cv_doc.specs.Kept.{IsParentOf}
 use Rattle.cv_spec_element.specs.Element.{Outcome}
-use Rattle.cv_spec_element.specs.Valuation.{IsValuation}
+use Rattle.cv_spec_element.specs.Valuation.{IsInvalid, IsValuation}
 use Rattle.cv_valuation.specs.declared.computed.Computed.{Computed}
 use Rattle.cv_valuation.specs.declared.key.Key.{Key}
 use Rattle.cv_valuation.specs.declared.outcome.Outcome.{Outcome as Kept}
@@ -18,15 +17,15 @@ use Rattle.cv_valuation.specs.Valuations.{Values, outcome_at}
 use Rattle.cv_props.specs.Registered.{AreEntries, Registered}
 use Rattle.cv_props.specs.Winners.{Declarations}
 use Rattle.cv_spec_valuation.specs.declared.place.Place.{Place}
-use Rattle.cv_spec_valuation.specs.Computed.{IsComputed, IsInRange, ParentStandsUnder, StandUnder}
+use Rattle.cv_spec_valuation.specs.Computed.{IsComputed, ParentStandsUnder, StandUnder, cause_of}
 use Rattle.cv_spec_valuation.specs.Computed as alone
 use Rattle.cv_spec_valuation.specs.Contexts.{size_above}
 use Rattle.cv_spec_valuation.specs.Element.{the_element, values_of}
 use Rattle.cv_spec_valuation.specs.Registered.{as_read}
-use Rattle.cv_spec_valuation.specs.Single.{HasOneResult, TellsTheSame}
+use Rattle.cv_spec_valuation.specs.Single.{TellsTheSame}
 use Rattle.cv_run.specs.Single.{HaveOneResult}
-use Rattle.cv_run.specs.Tree.{Tree, IsTree, StandsAt, AreComputed, AreInRange, AreOfElement, AreSolved, AreValuations, IsOfElement, IsOutOfRange, parent_in, place_in, root_size, values_in}
-use Rattle.cv_run.proofs.Growing.{count_values, earlier_still, element_alike, first_next, front_or_last, get_front}
+use Rattle.cv_run.specs.Tree.{Tree, AllStand, IsTree, StandsAt, AreComputed, AreInRange, AreOfElement, AreSolved, AreValuations, IsOfElement, IsOutOfRange, parent_in, place_in, root_size, values_in}
+use Rattle.cv_run.proofs.Growing.{count_values}
 
 -- ---- lists
 
@@ -78,39 +77,35 @@ as_read_one kept.Invalid (kept.Tokens b) is = cc
 as_read_one kept.Invalid (kept.Value b) is = cc
 as_read_one kept.Invalid kept.Invalid is = refl
 
--- what holds of one element
+-- an item of a list of which something holds
+pub holds_at : {X : Type 0} (P : X → Type 0) (xs : List X) (i : ℕ) (x : X) → All P xs → slice_get xs i ≡ Some x → P x
+holds_at P xs i x all at = subst P (there xs i at) (all i x (slice_get_within xs i x at))
+  where
+    there : (ys : List _) (k : ℕ) → slice_get ys k ≡ Some x → slice_index_or ys k x ≡ x
+    there [] k is = cc
+    there (y ∷ ys) zero is = cc
+    there (y ∷ ys) (suc k) is = there ys k is
+
+-- An element has one valuation at most.
 pub record ElementsAreSingle : Type 0 where
-  pub one_result : (registered : Registered) (decls : Declarations) (parent : Option Values) (place : Place) (most : ℕ) → AreEntries registered → ParentStandsUnder registered parent → HasOneResult registered decls parent place most
-  pub stand : (registered : Registered) (decls : Declarations) (parent : Option Values) (place : Place) (most : ℕ) → AreEntries registered → ParentStandsUnder registered parent → (computed : Computed) → IsComputed registered decls parent place most computed → StandUnder registered computed.values
   pub one_valuation : (registered : Registered) (decls : Declarations) (parent : Option Values) (place : Place) (most : ℕ) → AreEntries registered → ParentStandsUnder registered parent → (one other : Key → Outcome Token Typed) → IsValuation (the_element registered decls parent place most) one → IsValuation (the_element registered decls parent place most) other → (key : Key) → one key ≡ other key
 
+-- what is computed of an element, where the values are the same
+tells : (registered : Registered) (decls : Declarations) (parent : Option Values) (place : Place) (most : ℕ) (one other : Computed) → other.values ≡ one.values → IsComputed registered decls parent place most one → IsComputed registered decls parent place most other → TellsTheSame one other
+tells registered decls parent place most one other same is is_other = record {
+  values = same;
+  faults = λ key cause. (
+    (λ held. (is.faults key cause).1 (subst (λ (v : Values). IsInvalid (the_element registered decls parent place most) (values_of v) key (cause_of cause)) same ((is_other.faults key cause).0 held))),
+    (λ held. (is_other.faults key cause).1 (subst (λ (v : Values). IsInvalid (the_element registered decls parent place most) (values_of v) key (cause_of cause)) (sym same) ((is.faults key cause).0 held))),
+  );
+}
+
 module _ (single : ElementsAreSingle) (by_key : OutcomesAreByKey) (tree : Tree) (most : ℕ) (is_tree : IsTree tree) where
-  -- ---- the values stand under the registry
-
-  abbrev StandsBefore : List Computed → ℕ → Type 0
-  StandsBefore all i = (c : Computed) → slice_get all i ≡ Some c → StandUnder tree.registered c.values
-
-  parent_stands : (all : List Computed) (i : ℕ) → i < length all → ((j : ℕ) → j < i → StandsBefore all j) → (parent : Option ℕ) → IsParentOf i parent → ParentStandsUnder tree.registered (parent_in (values_in all) parent)
-  parent_stands all i below before None is_parent = tt
-  parent_stands all i below before (Some at) is_parent =
+  parent_stands : (all : List Computed) → AllStand tree.registered all → (i : ℕ) → i < length all → (parent : Option ℕ) → IsParentOf i parent → ParentStandsUnder tree.registered (parent_in (values_in all) parent)
+  parent_stands all stand i below None is_parent = tt
+  parent_stands all stand i below (Some at) is_parent =
       let c = item_at all at (omega (arith, below, is_parent)) in
-      subst (ParentStandsUnder tree.registered) (sym (values_get all at c.0 c.1)) (before at is_parent c.0 c.1)
-
-  stand_at : (n : ℕ) (all : List Computed) → AreComputed tree most n all → n ≤ length tree.parents → (i : ℕ) → i < n → ((j : ℕ) → j < i → StandsBefore all j) → StandsBefore all i
-  stand_at n all is le i lt before c at =
-      let e = stands_at tree is_tree i (omega (arith, lt, le)) in
-      let parent = parent_stands all i (omega (arith, lt, is.count)) before e.0 (is_tree.earlier i e.0 e.2.under) in
-      single.stand tree.registered e.1 (parent_in (values_in all) e.0) (place_in tree.width tree.height (values_in all) e.0) most is_tree.entries parent c (is.each i e.0 e.1 c e.2 at)
-
-  all_stand : (n : ℕ) (all : List Computed) → AreComputed tree most n all → n ≤ length tree.parents → (k i : ℕ) → i < k → i < n → StandsBefore all i
-  all_stand n all is le zero i lt lt_n = absurd (omega (arith, lt))
-  all_stand n all is le (suc k) i lt lt_n = stand_at n all is le i lt_n (λ j lower. all_stand n all is le k j (omega (arith, lt, lower)) (omega (arith, lower, lt_n)))
-
-  pub parents_stand : (n : ℕ) (all : List Computed) → AreComputed tree most n all → n ≤ length tree.parents → (parent : Option ℕ) → IsParentOf n parent → ParentStandsUnder tree.registered (parent_in (values_in all) parent)
-  parents_stand n all is le None is_parent = tt
-  parents_stand n all is le (Some at) is_parent =
-      let c = item_at all at (omega (arith, is.count, is_parent)) in
-      subst (ParentStandsUnder tree.registered) (sym (values_get all at c.0 c.1)) (all_stand n all is le (suc at) at (omega arith) is_parent c.0 c.1)
+      subst (ParentStandsUnder tree.registered) (sym (values_get all at c.0 c.1)) (holds_at (λ x. StandUnder tree.registered x.values) all at c.0 stand c.1)
 
   -- ---- no other values
 
@@ -149,7 +144,7 @@ module _ (single : ElementsAreSingle) (by_key : OutcomesAreByKey) (tree : Tree) 
       subst (λ (r : Option Ratio). IsValuation (the_element tree.registered decls (parent_in all parent) (with_root r) most) (values_of values)) root
       (subst (λ (v : Option Values). IsValuation (the_element tree.registered decls v (place_in tree.width tree.height others parent) most) (values_of values)) same is)
 
-  module _ (n m : ℕ) (all : List Computed) (others : List Values) (is : AreComputed tree most n all) (is_other : AreSolved tree most m others) (le : n ≤ length tree.parents) where
+  module _ (n m : ℕ) (all : List Computed) (others : List Values) (is : AreComputed tree most n all) (stand : AllStand tree.registered all) (is_other : AreSolved tree most m others) (le : n ≤ length tree.parents) where
     same_at : (i : ℕ) → i < n → i < m → ((j : ℕ) → j < i → SameAt (values_in all) others j) → SameAt (values_in all) others i
     same_at i lt_n lt_m before =
         let e = stands_at tree is_tree i (omega (arith, lt_n, le)) in
@@ -159,36 +154,35 @@ module _ (single : ElementsAreSingle) (by_key : OutcomesAreByKey) (tree : Tree) 
         let mine : IsComputed tree.registered e.1 (parent_in (values_in all) e.0) (place_in tree.width tree.height (values_in all) e.0) most c.0 = is.each i e.0 e.1 c.0 e.2 c.1 in
         let theirs : AreOfElement tree most (values_in all) e.0 e.1 other.0 =
         values_alike (values_in all) others e.0 e.1 other.0 (same_parent (values_in all) others i before e.0 above) (same_root (values_in all) others i before e.0 above) (is_other.each i e.0 e.1 other.0 e.2 other.1) in
-        let parent = parent_stands all i (omega (arith, lt_n, is.count)) (λ j lower. all_stand n all is le (suc j) j (omega arith) (omega (arith, lower, lt_n))) e.0 above in
+        let parent = parent_stands all stand i (omega (arith, lt_n, is.count)) e.0 above in
         let keys : (key : Key) → outcome_at other.0 key ≡ outcome_at c.0.values key =
         λ key. as_read_one (outcome_at c.0.values key) (outcome_at other.0 key)
-            (single.one_valuation tree.registered e.1 (parent_in (values_in all) e.0) (place_in tree.width tree.height (values_in all) e.0) most is_tree.entries parent (values_of other.0) (values_of c.0.values) theirs mine.solves key) in
+        (single.one_valuation tree.registered e.1 (parent_in (values_in all) e.0) (place_in tree.width tree.height (values_in all) e.0) most is_tree.entries parent (values_of other.0) (values_of c.0.values) theirs mine.solves key) in
         other.1 ∙ ap Some (by_key.same other.0 c.0.values keys) ∙ sym (values_get all i c.0 c.1)
 
     pub all_same : (k i : ℕ) → i < k → i < n → i < m → SameAt (values_in all) others i
     all_same zero i lt lt_n lt_m = absurd (omega (arith, lt))
     all_same (suc k) i lt lt_n lt_m = same_at i lt_n lt_m (λ j lower. all_same k j (omega (arith, lt, lower)) (omega (arith, lower, lt_n)) (omega (arith, lower, lt_m)))
 
-  pub only_values : (all : List Computed) (others : List Values) → AreComputed tree most (length tree.parents) all → AreValuations tree most others → others ≡ values_in all
-  only_values all others is is_other =
+  pub only_values : (all : List Computed) (others : List Values) → AreComputed tree most (length tree.parents) all → AllStand tree.registered all → AreValuations tree most others → others ≡ values_in all
+  only_values all others is stand is_other =
       same_list (values_in all) others (is_other.count ∙ sym (count_values all ∙ is.count))
-      (λ i lt. all_same (length tree.parents) (length tree.parents) all others is is_other (omega arith) (suc i) i (omega arith) (omega (arith, lt, count_values all, is.count)) (omega (arith, lt, count_values all, is.count)))
+      (λ i lt. all_same (length tree.parents) (length tree.parents) all others is stand is_other (omega arith) (suc i) i (omega arith) (omega (arith, lt, count_values all, is.count)) (omega (arith, lt, count_values all, is.count)))
 
   -- ---- nothing else is computed
 
-  module _ (all others : List Computed) (is : AreComputed tree most (length tree.parents) all) (is_other : AreComputed tree most (length tree.parents) others) where
+  module _ (all others : List Computed) (is : AreComputed tree most (length tree.parents) all) (stand : AllStand tree.registered all) (is_other : AreComputed tree most (length tree.parents) others) where
     same_values : values_in others ≡ values_in all
-    same_values = only_values all (values_in others) is (solved (length tree.parents) others is_other)
+    same_values = only_values all (values_in others) is stand (solved (length tree.parents) others is_other)
 
     pub same_told : (i : ℕ) (one other : Computed) → slice_get all i ≡ Some one → slice_get others i ≡ Some other → TellsTheSame one other
     same_told i one other at_one at_other =
         let below : i < length all = slice_get_within all i one at_one in
         let e = stands_at tree is_tree i (omega (arith, below, is.count)) in
-        let above : IsParentOf i e.0 = is_tree.earlier i e.0 e.2.under in
-        let parent = parent_stands all i below (λ j lower. all_stand (length tree.parents) all is (omega arith) (suc j) j (omega arith) (omega (arith, lower, below, is.count))) e.0 above in
-        let result = single.one_result tree.registered e.1 (parent_in (values_in all) e.0) (place_in tree.width tree.height (values_in all) e.0) most is_tree.entries parent in
-        result.only one other (is.each i e.0 e.1 one e.2 at_one)
-        (subst (λ (vs : List Values). IsOfElement tree most vs e.0 e.1 other) same_values (is_other.each i e.0 e.1 other e.2 at_other))
+        let theirs : IsOfElement tree most (values_in all) e.0 e.1 other = subst (λ (vs : List Values). IsOfElement tree most vs e.0 e.1 other) same_values (is_other.each i e.0 e.1 other e.2 at_other) in
+        let both : Some other.values ≡ Some one.values = sym (values_get others i other at_other) ∙ ap (λ vs. slice_get vs i) same_values ∙ values_get all i one at_one in
+        let same : other.values ≡ one.values = cc in
+        tells tree.registered e.1 (parent_in (values_in all) e.0) (place_in tree.width tree.height (values_in all) e.0) most one other same (is.each i e.0 e.1 one e.2 at_one) theirs
 
     pub same_count : length others ≡ length all
     same_count = is_other.count ∙ sym is.count
@@ -199,63 +193,36 @@ module _ (single : ElementsAreSingle) (by_key : OutcomesAreByKey) (tree : Tree) 
   -- ---- what is computed is in range
 
   -- where so many elements are computed, none of them has a property that is out of range
-  out_is_past : (n : ℕ) (all : List Computed) → AreComputed tree most n all → n ≤ length tree.parents → (i : ℕ) (property : Key) → i < n → IsOutOfRange tree most i property → ⊥
-  out_is_past n all is le i property lt out =
+  out_is_past : (n : ℕ) (all : List Computed) → AreComputed tree most n all → AllStand tree.registered all → n ≤ length tree.parents → (i : ℕ) (property : Key) → i < n → IsOutOfRange tree most i property → ⊥
+  out_is_past n all is stand le i property lt out =
       let c = item_at all i (omega (arith, lt, is.count)) in
       let above : IsParentOf i out.parent = is_tree.earlier i out.parent out.stands.under in
       let same : (j : ℕ) → j < i → SameAt (values_in all) (values_in out.before) j =
-      λ j lower. all_same n i all (values_in out.before) is (solved i out.before out.computed) le (suc j) j (omega arith) (omega (arith, lower, lt)) lower in
+      λ j lower. all_same n i all (values_in out.before) is stand (solved i out.before out.computed) le (suc j) j (omega arith) (omega (arith, lower, lt)) lower in
       let here : alone.IsOutOfRange tree.registered out.decls (parent_in (values_in all) out.parent) (place_in tree.width tree.height (values_in all) out.parent) most property =
       subst (λ (r : Option Ratio). alone.IsOutOfRange tree.registered out.decls (parent_in (values_in all) out.parent) (with_root r) most property) (same_root (values_in all) (values_in out.before) i same out.parent above)
       (subst (λ (v : Option Values). alone.IsOutOfRange tree.registered out.decls v (place_in tree.width tree.height (values_in out.before) out.parent) most property) (same_parent (values_in all) (values_in out.before) i same out.parent above) out.out) in
       (is.each i out.parent out.decls c.0 out.stands c.1).in_range property here
 
-  pub in_range : (all : List Computed) → AreComputed tree most (length tree.parents) all → AreInRange tree most
-  in_range all is i property out = out_is_past (length tree.parents) all is (omega arith) i property (slice_get_within tree.parents i out.parent out.stands.under) out
+  pub in_range : (all : List Computed) → AreComputed tree most (length tree.parents) all → AllStand tree.registered all → AreInRange tree most
+  in_range all is stand i property out = out_is_past (length tree.parents) all is stand (omega arith) i property (slice_get_within tree.parents i out.parent out.stands.under) out
 
   pub least : (one other : ℕ) (property more : Key) → IsOutOfRange tree most one property → IsOutOfRange tree most other more → other ≡ one
   least one other property more out out_other =
       let here : one < length tree.parents = slice_get_within tree.parents one out.parent out.stands.under in
       let there : other < length tree.parents = slice_get_within tree.parents other out_other.parent out_other.stands.under in
-      let not_lower : ¬ (other < one) = λ lt. out_is_past one out.before out.computed (omega (arith, here)) other more lt out_other in
-      let not_higher : ¬ (one < other) = λ lt. out_is_past other out_other.before out_other.computed (omega (arith, there)) one property lt out in
+      let not_lower : ¬ (other < one) = λ lt. out_is_past one out.before out.computed out.stand (omega (arith, here)) other more lt out_other in
+      let not_higher : ¬ (one < other) = λ lt. out_is_past other out_other.before out_other.computed out_other.stand (omega (arith, there)) one property lt out in
       omega (arith, not_lower, not_higher)
 
   -- ---- what there is
 
-  pub one_result : (all : List Computed) → AreComputed tree most (length tree.parents) all → HaveOneResult tree most
-  one_result all is = record {
+  pub one_result : (all : List Computed) → AreComputed tree most (length tree.parents) all → AllStand tree.registered all → HaveOneResult tree most
+  one_result all is stand = record {
     all = all;
     are_computed = is;
-    only_values = λ others is_other. only_values all others is is_other;
-    only = λ others is_other. all_the_same all others is is_other;
-    in_range = in_range all is;
+    stand = stand;
+    only_values = λ others is_other. only_values all others is stand is_other;
+    only = λ others is_other. all_the_same all others is stand is_other;
+    in_range = in_range all is stand;
   }
-
-  -- so many elements are computed
-  abbrev HasFirst : ℕ → Type 0
-  HasFirst n = (all : List Computed) × AreComputed tree most n all
-
-  one_more : AreInRange tree most → (n : ℕ) → n < length tree.parents → HasFirst n → HasFirst (n + 1)
-  one_more ranged n below f =
-      let e = stands_at tree is_tree n below in
-      let parent = parents_stand n f.0 f.1 (omega (arith, below)) e.0 (is_tree.earlier n e.0 e.2.under) in
-      let result = single.one_result tree.registered e.1 (parent_in (values_in f.0) e.0) (place_in tree.width tree.height (values_in f.0) e.0) most is_tree.entries parent in
-      let here : IsInRange tree.registered e.1 (parent_in (values_in f.0) e.0) (place_in tree.width tree.height (values_in f.0) e.0) most =
-      λ key out. ranged n key (record { before = f.0; computed = f.1; parent = e.0; decls = e.1; stands = e.2; out = out }) in
-      let next = result.some here in
-      let count : length f.0 ≡ n = f.1.count in
-      (f.0 ++ next.0 ∷ [], subst (λ (k : ℕ). AreComputed tree most (k + 1) (f.0 ++ next.0 ∷ [])) count
-        (first_next tree most f.0 e.0 e.1 next.0 is_tree.earlier (subst (λ (k : ℕ). StandsAt tree k e.0 e.1) (sym count) e.2) next.1 (subst (λ (k : ℕ). AreComputed tree most k f.0) (sym count) f.1)))
-
-  firsts : AreInRange tree most → (n : ℕ) → n ≤ length tree.parents → HasFirst n
-  firsts ranged zero le = ([], record { count = refl; each = λ i parent decls computed stands at. absurd (let clash : None ≡ Some computed = at in cc) })
-  firsts ranged (suc n) le =
-      let next : HasFirst (n + 1) = one_more ranged n (omega (arith, le)) (firsts ranged n (omega (arith, le))) in
-      let same : n + 1 ≡ suc n = omega arith in
-      subst HasFirst same next
-
-  pub one_valuation : AreInRange tree most → HaveOneResult tree most
-  one_valuation ranged =
-      let all = firsts ranged (length tree.parents) (omega arith) in
-      one_result all.0 all.1

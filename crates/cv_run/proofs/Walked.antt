@@ -14,7 +14,7 @@ use Rattle.cv_props.specs.Winners.{Declarations}
 use Rattle.cv_spec_valuation.specs.Computed.{StandUnder}
 use Rattle.cv_spec_valuation.specs.Computed as alone
 use Rattle.cv_run.specs.Telling.{AreFew}
-use Rattle.cv_run.specs.Tree.{AreEarlier, Tree, the_tree, StandsAt, AreComputed, IsOfElement, IsOutOfRange, parent_in, parent_of, place_in, values_in}
+use Rattle.cv_run.specs.Tree.{AllStand, AreEarlier, Tree, the_tree, StandsAt, AreComputed, IsOfElement, IsOutOfRange, parent_in, parent_of, place_in, values_in}
 use Rattle.cv_run.specs.Walking.{IsNextOut, IsOneMore, IsReady, Stepped, tree_in, values_before}
 use Rattle.cv_run.specs.declared.tree.Computing.{Computing}
 use Rattle.cv_run.specs.declared.tree.Stop.{Stop}
@@ -64,7 +64,7 @@ record IsBegun (i count : ℕ) (s : Computing) : Type 0 where
   declared : i + count ≡ length s.declarations.now
   few : All AreFew s.declarations.now
   before : length s.all.items ≡ i
-  stand : All (λ computed. StandUnder s.registry.now computed.values) s.all.items
+  stand : AllStand s.registry.now s.all.items
 
 earlier : (i n : ℕ) (parent : Option ℕ) → n ≡ i → IsParentOf i parent → IfSome parent (λ at. at < n)
 earlier i n None same is = tt
@@ -120,6 +120,7 @@ record IsDone (most : ℕ) (tree : Tree) (i : ℕ) (s : Computing) : Type 0 wher
   tree_is : tree_in s tree.parents ≡ tree
   limit : s.limit ≡ most
   computed : AreComputed tree most i s.all.items
+  stand : AllStand tree.registered s.all.items
 
 tree_same : (s t : Computing) (parents : List (Option ℕ)) (i : ℕ) (parent : Option ℕ) → IsOneMore s i parent t → tree_in t parents ≡ tree_in s parents
 tree_same s t parents i parent m =
@@ -137,10 +138,12 @@ done_next most tree i parent s t parents at d m = record {
   limit = m.kept.limit ∙ d.limit;
   computed = subst (AreComputed tree most (i + 1)) (sym m.kept.all)
       (subst (λ (n : ℕ). AreComputed tree most (n + 1) (s.all.items ++ m.computed ∷ [])) d.computed.count
-        (first_next tree most s.all.items parent m.next.decls m.computed parents
-          (subst (λ (n : ℕ). StandsAt tree n parent m.next.decls) (sym d.computed.count) (stands most tree i parent m.next.decls s d at m.next.declares))
-          fresh
-          (subst (λ (n : ℕ). AreComputed tree most n s.all.items) (sym d.computed.count) d.computed)));
+      (first_next tree most s.all.items parent m.next.decls m.computed parents
+      (subst (λ (n : ℕ). StandsAt tree n parent m.next.decls) (sym d.computed.count) (stands most tree i parent m.next.decls s d at m.next.declares))
+      fresh
+      (subst (λ (n : ℕ). AreComputed tree most n s.all.items) (sym d.computed.count) d.computed)));
+  stand = subst (AllStand tree.registered) (sym m.kept.all)
+      (All-push (λ computed. StandUnder tree.registered computed.values) s.all.items m.computed d.stand (subst (λ (x : Tree). StandUnder x.registered m.computed.values) d.tree_is m.next.stand));
 }
   where
     fresh : IsOfElement tree most (values_in s.all.items) parent m.next.decls m.computed
@@ -152,6 +155,7 @@ out_next : (most : ℕ) (tree : Tree) (i : ℕ) (parent : Option ℕ) (property 
 out_next most tree i parent property s at d o = record {
   before = s.all.items;
   computed = d.computed;
+  stand = d.stand;
   parent = parent;
   decls = o.decls;
   stands = stands most tree i parent o.decls s d at o.declares;
@@ -166,10 +170,10 @@ parent_there tree whole done e es parents same =
 
 module _ (most : ℕ) (tree : Tree) (whole : List Elem) (earlier_all : AreEarlier tree.parents) (parents : tree.parents ≡ map parent_of whole) where
   walked : (done rest : List Elem) (s last : Computing) → whole ≡ done ++ rest → IsDone most tree (length done) s
-      → Reaches Stepped (length done) rest s (Ok tt) last → AreComputed tree most (length whole) last.all.items
+      → Reaches Stepped (length done) rest s (Ok tt) last → AreComputed tree most (length whole) last.all.items × AllStand tree.registered last.all.items
   walked done [] s last same d reached =
       let count : length done ≡ length whole = ap length (sym (append-nil done)) ∙ ap length (sym same) in
-      subst (λ (x : Computing). AreComputed tree most (length whole) x.all.items) (sym reached.1) (subst (λ (n : ℕ). AreComputed tree most n s.all.items) count d.computed)
+      subst (λ (x : Computing). AreComputed tree most (length whole) x.all.items × AllStand tree.registered x.all.items) (sym reached.1) (subst (λ (n : ℕ). AreComputed tree most n s.all.items) count d.computed, d.stand)
   walked done (e ∷ es) s last same d (inl stopped) = let no = stopped.1 in cc
   walked done (e ∷ es) s last same d (inr went) =
       let longer : whole ≡ (done ++ e ∷ []) ++ es = same ∙ sym (append_assoc done (e ∷ []) es) in
@@ -195,10 +199,11 @@ begun elements s none = record {
   tree_is = refl;
   limit = refl;
   computed = record { count = ap length none; each = λ i parent decls computed at is_at. let no : None ≡ Some computed = ap (λ l. slice_get l i) (sym none) ∙ is_at in cc };
+  stand = subst (AllStand s.registry.now) (sym none) (λ k d lt. absurd (omega (arith, lt)));
 }
 
 pub computed_all : (elements : List Elem) (s last : Computing) → IsTree elements → s.all.items ≡ [] → Reaches Stepped 0 elements s (Ok tt) last
-    → AreComputed (tree_in s (map parent_of elements)) s.limit (length elements) last.all.items
+    → AreComputed (tree_in s (map parent_of elements)) s.limit (length elements) last.all.items × AllStand s.registry.now last.all.items
 computed_all elements s last tree none reached =
     walked s.limit (tree_in s (map parent_of elements)) elements (parents_earlier elements tree) refl [] elements s last refl (begun elements s none) reached
 

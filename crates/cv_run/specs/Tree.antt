@@ -1,7 +1,7 @@
 -- The tree of elements, each with its declarations, under a registry and in a viewport: the values on each, given its parent's
 -- (Cascade 4, "Inheritance"), which property is out of range, and the report of them.
 use Rattle.std.specs.Prelude.{ℕ, ◌≡◌, List, length, map, Option, Some, None}
-use Rattle.std.specs.List.{slice_get}
+use Rattle.std.specs.List.{All, slice_get}
 use Rattle.cv_spec_ratio.specs.Ratio.{Ratio}
 use Rattle.cv_doc.specs.declared.elements.Elem.{Elem}
 use Rattle.cv_doc.specs.Kept.{IsParentOf}
@@ -16,7 +16,7 @@ use Rattle.cv_props.specs.Sheets.{registry_of}
 use Rattle.cv_props.specs.Winners.{Declarations}
 use Rattle.cv_report.specs.Report.{report_text}
 use Rattle.cv_spec_valuation.specs.declared.place.Place.{Place}
-use Rattle.cv_spec_valuation.specs.Computed.{IsComputed}
+use Rattle.cv_spec_valuation.specs.Computed.{IsComputed, StandUnder}
 use Rattle.cv_spec_valuation.specs.Computed as alone
 use Rattle.cv_spec_valuation.specs.Contexts.{size_above}
 use Rattle.cv_spec_valuation.specs.Element.{the_element, values_of}
@@ -64,6 +64,10 @@ root_size all (Some parent) = Some (size_above (slice_get all 0))
 abbrev pub place_in : ℕ → ℕ → List Values → Option ℕ → Place
 place_in width height all parent = record { width = width; height = height; root = root_size all parent }
 
+-- all values stand under the registry
+abbrev pub AllStand : Registered → List Computed → Type 0
+AllStand registered all = All (λ computed. StandUnder registered computed.values) all
+
 abbrev pub values_in : List Computed → List Values
 values_in all = map (λ computed. computed.values) all
 
@@ -94,6 +98,7 @@ module _ (tree : Tree) (most : ℕ) where
   pub record IsOutOfRange (element : ℕ) (property : Key) : Type 0 where
     pub before : List Computed
     pub computed : AreComputed element before
+    pub stand : AllStand tree.registered before
     pub parent : Option ℕ
     pub decls : Declarations
     pub stands : StandsAt tree element parent decls

@@ -9,7 +9,7 @@ use Rattle.cv_props.specs.Winners.{Declarations}
 use Rattle.cv_spec_valuation.specs.declared.place.Place.{Place}
 use Rattle.cv_spec_valuation.specs.Computed.{IsComputed, IsOutOfRange, StandUnder}
 use Rattle.cv_run.specs.Telling.{AreFew}
-use Rattle.cv_run.specs.Tree.{Tree, the_tree, parent_in, place_in, values_in}
+use Rattle.cv_run.specs.Tree.{AllStand, Tree, the_tree, parent_in, place_in, values_in}
 use Rattle.cv_run.specs.declared.tree.Computing.{Computing}
 use Rattle.cv_run.specs.declared.tree.Stop.{Stop}
 use Rattle.cv_run.specs.declared.tree.Stop.TheVariants as stop
@@ -26,7 +26,7 @@ pub record IsReady (computing : Computing) (index : ℕ) (parent : Option ℕ) :
   pub declared : index < length computing.declarations.now
   pub few : All AreFew computing.declarations.now
   pub before : length computing.all.items ≡ index
-  pub stand : All (λ computed. StandUnder computing.registry.now computed.values) computing.all.items
+  pub stand : AllStand computing.registry.now computing.all.items
   pub earlier : IfSome parent (λ at. at < length computing.all.items)
 
 abbrev pub values_before : Computing → List Values

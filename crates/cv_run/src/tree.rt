@@ -1,20 +1,26 @@
 //! The valuations of a tree: those of its elements, each given its parent's.
 
-ghost use Rattle.std.specs.Prelude.{◌≡◌, ◌≤◌, ◌<◌, ℕ, All, IfErr, IfOk, IfSome, OnOk, length, map};
+ghost use Rattle.std.specs.Prelude.{◌≡◌, ◌≤◌, ◌<◌, ◌↔◌, ℕ, All, IfErr, IfOk, IfSome, IsNone, OnOk, length, map};
 ghost use Rattle.std.specs.Option.{option_copied};
 ghost use Rattle.cv_valuation.specs.declared.key.Key as keys;
 ghost use Rattle.cv_doc.specs.Kept.{IsTree};
 ghost use Rattle.cv_spec_valuation.specs.Computed.{IsComputed, IsOutOfRange, ParentStandsUnder, StandUnder};
+ghost use Rattle.cv_property.specs.declared.property.Property.TheVariants.{FontSize};
+ghost use Rattle.cv_valuation.specs.declared.key.Key.TheVariants.{Table};
+ghost use Rattle.cv_valuation.specs.Valuations.{outcome_at};
+ghost use Rattle.cv_spec_valuation.specs.Contexts.{size_of};
 ghost use Rattle.cv_run.specs.Telling.{AreFew};
-ghost use Rattle.cv_run.specs.Tree.{AreComputed, parent_of, place_in, values_in};
+ghost use Rattle.cv_run.specs.Tree.{AllStand, AreComputed, parent_of, place_in, values_in};
 ghost use Rattle.cv_run.specs.Tree as trees;
 ghost use Rattle.cv_run.specs.Walking.{IsKept, IsReady, IsNextOf, IsNextOut, Stepped};
 
 use cv_doc::{Elem, Step, walk};
-use cv_element::{ElemErr, element, size_above};
+use cv_element::{ElemErr, element};
+use cv_frac::Frac;
 use cv_graph::Steps;
-use cv_props::{Computed, Decls, Key, Registry, Valuation};
+use cv_props::{Computed, Decls, Key, Outcome, Property, Registry, Valuation};
 use cv_spec_valuation::Place;
+use cv_value::{Item, Typed};
 use std::alloc::Global;
 use std::marker::Brand;
 use std::sync::ledger::{Blank, Ledger};
@@ -61,6 +67,7 @@ pub fn computed_of(
     requires least { 1 ≤ limit }
     requires most { limit ≤ 32768 }
     ensures computed { IfOk result (λ all. AreComputed (trees.the_tree registry.now (map parent_of elements.now.items) declarations.now size.0 size.1) limit (length elements.now.items) all.items) }
+    ensures stand { IfOk result (λ all. AllStand registry.now all.items) }
     ensures range { (number : ℕ) (property : keys.Key) → result ≡ Err (Stop.Range number property) → trees.IsOutOfRange (trees.the_tree registry.now (map parent_of elements.now.items) declarations.now size.0 size.1) limit number property }
 {
     let mut computing = Computing {
@@ -129,10 +136,11 @@ impl Computing<'_> {
     // Where an element with this parent stands.
     fn place(&self, parent: Option<u32>) -> Place
         requires { IfSome parent (λ at. at < length self.now.all.items) }
-        ensures { result ≡ place_in self.now.width self.now.height (values_in self.now.all.items) parent }
+        ensures place { result ≡ place_in self.now.width self.now.height (values_in self.now.all.items) parent }
+        ensures root { IsNone parent ↔ IsNone result.root }
     {
         let root = match parent {
-            Some(_) => Some(size_above(Some(&self.all[0].values))),
+            Some(_) => Some(font_size(&self.all[0].values)),
             None => None,
         };
         Place {
@@ -152,6 +160,7 @@ impl Computing<'_> {
         requires few { AreFew declarations.now }
         requires least { 1 ≤ self.now.limit }
         requires most { self.now.limit ≤ 32768 }
+        requires root { IsNone parent ↔ IsNone place.now.root }
         requires parent { ParentStandsUnder self.now.registry.now (option_copied parent) }
         ensures computed { IfOk result (IsComputed self.now.registry.now declarations.now (option_copied parent.entry) place.now self.now.limit) }
         ensures stand { IfOk result (λ computed. StandUnder self.now.registry.now computed.values) }
@@ -166,6 +175,16 @@ impl Computing<'_> {
             self.limit,
             Blank::new(1),
         )
+    }
+}
+
+// The font size in px among these values.
+fn font_size(values: &Valuation) -> Frac
+    ensures { result ≡ size_of (outcome_at values.now (Table FontSize)) }
+{
+    match values.get(&Key::Table(Property::FontSize)) {
+        Outcome::Value(Typed::One(Item::Length(size))) => *size,
+        _ => Frac::whole(16),
     }
 }
 
@@ -185,6 +204,7 @@ fn computed_counting<L: Ledger>(
     requires few { AreFew declarations.now }
     requires least { 1 ≤ limit }
     requires most { limit ≤ 32768 }
+    requires root { IsNone parent ↔ IsNone place.now.root }
     requires parent { ParentStandsUnder registry.now (option_copied parent) }
     ensures computed { IfOk result (IsComputed registry.now declarations.now (option_copied parent.entry) place.now limit) }
     ensures stand { IfOk result (λ computed. StandUnder registry.now computed.values) }

@@ -13,6 +13,7 @@ returns-clause-tells c =
     let is_tree = tree_is (shape_of document) contents c.requires.sound c.requires.contents in
     tells_of (shape_of document) c.args.limit (record { notes = contents.notes; shown = contents.shown; all = c.in-Ok.all }) contents c.requires.sound c.requires.contents
     (c.trees_have_one_result.ensures.computed (tree_of (shape_of document)) c.args.limit is_tree)
-    (c.documents_have_one_report.ensures.only (shape_of document) c.args.limit is_tree)
+    (c.documents_have_one_report.ensures (shape_of document) c.args.limit)
     (subst (λ (d : List Declarations). AreComputed (the_tree contents.registry (map parent_of document.elements.items) d document.width document.height) c.args.limit (length document.elements.items) c.in-Ok.all.items) c.deref.ensures.value c.in-Ok.ensures.computed)
+    c.in-Ok.ensures.stand
     c.requires.contents.notes c.requires.contents.shown

@@ -16,8 +16,8 @@ returns-clause-refused c =
     let registered = (tree_of document).registered in
     let declared = map declarations_of document.elements in
     let names = c.in_ok-names.ensures
-        ∙ ap (λ r. with_names [] (names_in r c.deref.result.now show c.deref-2.result.now)) c.in_ok-contents.ensures.registry
-        ∙ ap (λ d. with_names [] (names_in registered d show c.deref-2.result.now)) (c.deref.ensures.value ∙ c.in_ok-contents.ensures.declarations)
-        ∙ ap (λ l. with_names [] (names_in registered declared show l)) c.deref-2.ensures.value in
+    ∙ ap (λ r. with_names [] (names_in r c.deref.result.now show c.deref-2.result.now)) c.in_ok-contents.ensures.registry
+    ∙ ap (λ d. with_names [] (names_in registered d show c.deref-2.result.now)) (c.deref.ensures.value ∙ c.in_ok-contents.ensures.declarations)
+    ∙ ap (λ l. with_names [] (names_in registered declared show l)) c.deref-2.ensures.value in
     let same : c.len.result ≡ counted document = c.len.ensures.len ∙ ap length names in
     subst (λ (f : Fate). IfErr c.report_of_contents.result (IsRefusal f c.args.limit)) (sym (few_names document c.len.result same c.if-len-gt-MOST_NAMES.false)) c.report_of_contents.ensures.refused

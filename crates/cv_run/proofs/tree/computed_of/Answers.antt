@@ -15,9 +15,15 @@ walk-requires-clause-ready c =
 
 pub returns-in-Ok-clause-computed : goal.returns-in-Ok-clause-computed
 returns-in-Ok-clause-computed c =
-    computed_all c.args.elements.now.items
+    (computed_all c.args.elements.now.items
     (record { alloc = c.args.alloc; registry = c.args.registry; declarations = c.args.declarations; width = c.args.size.0; height = c.args.size.1; limit = c.args.limit; all = c.new.result })
-    c.walk.new.step c.requires.tree c.new.ensures.items c.in-Ok.ensures
+    c.walk.new.step c.requires.tree c.new.ensures.items c.in-Ok.ensures).0
+
+pub returns-in-Ok-clause-stand : goal.returns-in-Ok-clause-stand
+returns-in-Ok-clause-stand c =
+    (computed_all c.args.elements.now.items
+    (record { alloc = c.args.alloc; registry = c.args.registry; declarations = c.args.declarations; width = c.args.size.0; height = c.args.size.1; limit = c.args.limit; all = c.new.result })
+    c.walk.new.step c.requires.tree c.new.ensures.items c.in-Ok.ensures).1
 
 pub returns-in-Err-clause-range : goal.returns-in-Err-clause-range
 returns-in-Err-clause-range c = λ number property is.
