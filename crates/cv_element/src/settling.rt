@@ -149,7 +149,7 @@ fn invalid_value(
     parent: Option<&Valuation>,
     key: &Key,
 ) -> Result<Outcome, OutOfMemory>
-    ensures { IfOk result (λ outcome. outcome ≡ invalid_at registry.now (option_copied parent) key.now) }
+    ensures { IfOk result (λ outcome. outcome ≡ invalid_at registry.now (option_copied parent.entry) key.now) }
 {
     if is_loose(registry, key) {
         Ok(Outcome::Invalid)

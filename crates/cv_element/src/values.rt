@@ -3,8 +3,7 @@
 ghost use Rattle.std.specs.Prelude.{◌≡◌, IfOk};
 ghost use Rattle.std.specs.Option.{option_copied};
 ghost use Rattle.cv_spec_element.specs.Keywords.{by_keyword, inherited};
-ghost use Rattle.cv_spec_valuation.specs.Registered.{is_loose, inherits, has_lengths, initial_at};
-ghost use Rattle.cv_spec_valuation.specs.Computed.{MayStand, ParentStandsUnder};
+ghost use Rattle.cv_spec_valuation.specs.Registered.{is_loose, inherits, initial_at};
 ghost use Rattle.cv_element.specs.Keywords.{wide};
 ghost use Rattle.cv_element.specs.Values.{held_by};
 
@@ -46,8 +45,7 @@ pub fn initial_value(
     registry: &Registry,
     key: &Key,
 ) -> Result<Outcome, OutOfMemory>
-    ensures outcome { IfOk result (λ outcome. outcome ≡ initial_at registry.now key.now) }
-    ensures stands { MayStand registry.now key.now (initial_at registry.now key.now) }
+    ensures { IfOk result (λ outcome. outcome ≡ initial_at registry.now key.now) }
 {
     match key {
         Key::Custom(name) => match registry.get(name) {
@@ -65,7 +63,7 @@ fn inherited_value(
     parent: Option<&Valuation>,
     key: &Key,
 ) -> Result<Outcome, OutOfMemory>
-    ensures { IfOk result (λ outcome. outcome ≡ inherited (initial_at registry.now key.now) (held_by (option_copied parent) key.now)) }
+    ensures { IfOk result (λ outcome. outcome ≡ inherited (initial_at registry.now key.now) (held_by (option_copied parent.entry) key.now)) }
 {
     match parent {
         Some(values) => values.get(key).copy(alloc),
@@ -81,7 +79,7 @@ pub fn keyword_value(
     key: &Key,
     keyword: Keyword,
 ) -> Result<Outcome, OutOfMemory>
-    ensures { IfOk result (λ outcome. outcome ≡ by_keyword (initial_at registry.now key.now) (held_by (option_copied parent) key.now) (inherits registry.now key.now) (wide keyword)) }
+    ensures { IfOk result (λ outcome. outcome ≡ by_keyword (initial_at registry.now key.now) (held_by (option_copied parent.entry) key.now) (inherits registry.now key.now) (wide keyword)) }
 {
     match keyword {
         Keyword::Initial => initial_value(alloc, registry, key),
