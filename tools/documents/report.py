@@ -6,6 +6,7 @@ from typing import Optional
 NAME = r"(?:\\[0-9a-f]{1,6} ?|\\[\s\S]|[^\\ ])+"
 LINE = re.compile(rf"(\d+) ({NAME}) (?:(invalid)|(=)(?: (.*))?|! (\w+))", re.DOTALL)
 NOTE = re.compile(r"# element (\d+) declaration (\d+): (.*)")
+OF_ELEMENT = b"# element "
 
 
 @dataclass
@@ -39,12 +40,16 @@ def read_report(text):
             yield Line(int(element), name, (value or "") if equals else None, cause)
 
 
-def with_labels(text, labels):
-    """A report in which each element is named by its index and its label."""
-    return re.sub(r"^(# element )?(\d+)(?= )", lambda match: named_element(match, labels), text, flags=re.MULTILINE)
+def with_labels(report, labels):
+    """A report (bytes) in which each element is named by its index and its label, as `#3 div.card > p`."""
+    named = [f"#{index} {label}".rstrip().encode("utf-8") for index, label in enumerate(labels)]
+    return b"\n".join(named_line(line, named) for line in report.split(b"\n"))
 
 
-def named_element(match, labels):
-    """The text for an element's index at the head of a line."""
-    index = int(match.group(2))
-    return f"{match.group(1) or ''}#{index} {labels[index]}".rstrip()
+def named_line(line, named):
+    """One line, with the name of its element."""
+    head = OF_ELEMENT if line.startswith(OF_ELEMENT) else b""
+    index, space, rest = line[len(head):].partition(b" ")
+    if not space or not index.isdigit():
+        return line
+    return head + named[int(index)] + space + rest

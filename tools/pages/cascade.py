@@ -6,8 +6,10 @@ import cssselect2
 import tinycss2
 from tinycss2.serializer import serialize_identifier
 
+from pages.hints import hints
 from pages.rules import Declared, block_items
 
+HINTS = (-1,)  # the layer of presentational hints, below every other
 ROLLBACKS = ("revert", "revert-layer")
 
 
@@ -46,12 +48,11 @@ class Cascade:
             if pseudo is None:
                 weights[order] = max(specificity, weights.get(order, (0, 0, 0)))
         matched = tuple(sorted((specificity, order) for order, specificity in weights.items()))
-        attached = self.attached(element, file)
-        if attached or matched not in self.known:
-            sorted_ones = self.sorted(matched, attached)
-            if attached:
-                return sorted_ones
-            self.known[matched] = sorted_ones
+        attached, hinted = self.attached(element, file), [Declared(name, value, False, element.line) for name, value in hints(element)]
+        if attached or hinted:
+            return self.sorted(matched, attached, hinted)
+        if matched not in self.known:
+            self.known[matched] = self.sorted(matched)
         return self.known[matched]
 
     def attached(self, element, file):
@@ -67,9 +68,9 @@ class Cascade:
                 self.reader.left_out.add(file, element.line, "what isn't a declaration in a style attribute")
         return found
 
-    def sorted(self, matched, attached):
-        """Rules (with their specificity) and the declarations of a style attribute, sorted by the cascade."""
-        entries = []
+    def sorted(self, matched, attached=(), hinted=()):
+        """Rules (with their specificity), the declarations of a style attribute, and hints, sorted by the cascade."""
+        entries = [(declared, True, False, HINTS, (0, 0, 0), -2, None) for declared in hinted]
         for specificity, order in matched:
             scope, key = self.reader.rules[order].scope, self.keys[order]
             for declared in self.reader.rules[order].declarations:
@@ -136,7 +137,7 @@ def style_text(applied, with_places=True):
         if declared.value is None:
             continue
         if with_places and one.rule != rule and one.author:
-            parts.append(f"/* {one.file}:{declared.line} */" if one.file else "/* style attribute */")
+            parts.append(f"/* {one.file}:{declared.line} */" if one.file else "/* attribute */")
         rule = one.rule
         important = " !important" if declared.important else ""
         parts.append(f"{serialize_identifier(declared.name)}: {declared.value}{important};")

@@ -1,5 +1,6 @@
 """A page as a document."""
 import json
+import re
 from dataclasses import dataclass, field
 from typing import Dict, List
 
@@ -23,6 +24,7 @@ class Page:
     document: dict
     left_out: LeftOut
     untold: Dict[int, List[str]] = field(default_factory=dict)  # by element
+    dropped_names: List[str] = field(default_factory=list)  # names whose registration was dropped
 
     def text(self):
         """The document as JSON, an element a line."""
@@ -43,6 +45,7 @@ def read_page(path, width=1280, height=720, only_custom=False):
     page = Page({"page": path, "viewport": {"width": width, "height": height}}, left_out)
     if reader.registrations and only_custom:
         left_out.add(path, 1, f"{len(reader.registrations)} @property rules, for the program doesn't build them yet")
+        page.dropped_names = re.findall(r"@property\s+(--[^\s{]+)", " ".join(reader.registrations))
     elif reader.registrations:
         page.document["sheet"] = "\n".join(reader.registrations)
     page.document["elements"] = [document_element(index, element, cascade, page, only_custom) for index, element in enumerate(elements)]

@@ -64,6 +64,17 @@ class Reader:
     registrations: List[str] = field(default_factory=list)
     depth: int = 0
 
+    def read_sheet(self, nodes, scope):
+        """Reads the nodes of a whole sheet: its imports stand before every rule but the statements of layers."""
+        head = True
+        for node in nodes:
+            name = node.lower_at_keyword if node.type == "at-rule" else None
+            head = head and (name in ("import", "charset") or name == "layer" and node.content is None)
+            if name == "import" and not head:
+                self.left_out.add(scope.file, scope.line_of(node), "an @import behind rules, which no browser reads")
+            else:
+                self.read([node], scope)
+
     def read(self, nodes, scope):
         """Reads the nodes of a list of rules."""
         for node in nodes:
@@ -78,8 +89,8 @@ class Reader:
         """Reads a style rule, and those that are nested in it."""
         try:
             found, left = selectors.compiled(node.prelude, scope.parents)
-        except selectors.OtherEngine as error:
-            self.left_out.add(scope.file, scope.line_of(node), f"a rule for another engine, with :{error.args[0]}", "another engine")
+        except selectors.BadSelector as error:
+            self.left_out.add(scope.file, scope.line_of(node), f"a rule {error.args[0]}", error.args[0].split(",")[0])
             return
         for text, why in left:
             self.left_out.add(scope.file, scope.line_of(node), f"the selector {text} ({why} isn't known)", f"selector {why}")
@@ -108,6 +119,9 @@ class Reader:
     def declared(self, node, scope):
         """The declarations that one stands for, shorthands expanded."""
         line = scope.line_of(node)
+        if holds_error(node.value):
+            self.left_out.add(scope.file, line, f"a declaration of {node.name} with a bad string, url or bracket, which no browser takes")
+            return []
         longhands, why = expand(node)
         if longhands is None:
             if scope.author:
@@ -174,8 +188,15 @@ class Reader:
             loaded = self.load(url, scope, scope.line_of(node))
             if loaded is not None:
                 self.depth += 1
-                self.read(*loaded)
+                self.read_sheet(*loaded)
                 self.depth -= 1
+
+
+def holds_error(tokens):
+    """Whether a token that no value may hold stands in the tokens, at any depth."""
+    return any(token.type == "error" and not token.kind.startswith("eof") or
+               token.type != "error" and holds_error(getattr(token, "arguments", None) or getattr(token, "content", None) or ())
+               for token in tokens)
 
 
 def significant(tokens):

@@ -8,14 +8,18 @@ NEVER = frozenset((
     "user-invalid", "host", "host-context", "target-within", "target-current", "active-view-transition", "blank", "xr-overlay"))
 # A pseudo-class with the same weight, of which cssselect2 knows that it matches nothing.
 NOTHING = "hover"
+# Pseudo-classes that browsers know and cssselect2 doesn't; a rule with any other that it doesn't know no browser takes.
+UNKNOWN_HERE = frozenset((
+    "valid", "invalid", "required", "optional", "read-only", "read-write", "placeholder-shown", "indeterminate", "default", "in-range",
+    "out-of-range", "defined", "open", "dir", "state", "popover-open", "has-slotted", "buffering", "muted", "paused", "playing", "seeking"))
 # Pseudo-elements are no elements of the tree; those that cssselect2 doesn't know.
 PSEUDO_ELEMENTS = frozenset((
     "backdrop", "cue", "details-content", "view-transition", "highlight", "part", "slotted", "checkmark", "picker-icon", "scroll-marker"))
 OTHER_ENGINES = ("-moz-", "-ms-", "-o-", "-khtml-")
 
 
-class OtherEngine(Exception):
-    """A selector list that only another engine than Chromium's takes: there the whole rule counts for nothing."""
+class BadSelector(Exception):
+    """A list with a selector that Chromium doesn't take: there the whole rule counts for nothing."""
 
 
 def split_selectors(tokens):
@@ -61,19 +65,22 @@ def rewritten(tokens, parents):
 
 
 def names_pseudo_element(tokens):
-    """Whether a selector ends in a pseudo-element that cssselect2 doesn't know; `OtherEngine` where one of another engine stands in it."""
+    """Whether a selector ends in a pseudo-element that cssselect2 doesn't know; `BadSelector` where one of another engine stands in it."""
     found = False
     for before, colon, token in zip([None] + tokens, tokens, tokens[1:]):
         if colon == ":" and token.type in ("ident", "function"):
             name = token.lower_value if token.type == "ident" else token.lower_name
             if name.startswith(OTHER_ENGINES):
-                raise OtherEngine(name)
+                raise BadSelector(f"for another engine, with :{name}")
             found = found or before == ":" and (name.startswith("-webkit-") or name in PSEUDO_ELEMENTS)
     return found
 
 
 def compiled(tokens, parents=None):
-    """The compiled selectors of a list that match elements, and what is left out as pairs of a text and the reason."""
+    """The compiled selectors of a list that match elements, and those that are left out, with what isn't known of them.
+
+    `BadSelector` where browsers take none of the list.
+    """
     found, left = [], []
     parts = split_selectors(tokens)
     if any([names_pseudo_element(part) for part in parts]):
@@ -83,7 +90,10 @@ def compiled(tokens, parents=None):
         try:
             found += [one for one in cssselect2.compile_selector_list(text) if one.pseudo_element is None]
         except Exception as error:  # cssselect2 fails in several ways on what it doesn't know
-            left.append((text, str(error.args[-1]) if error.args else type(error).__name__))
+            unknown = str(error.args[-1]) if error.args else type(error).__name__
+            if unknown not in UNKNOWN_HERE and not isinstance(error, NotImplementedError):
+                raise BadSelector(f"with a selector that no browser takes, {text}") from None
+            left.append((text, unknown))
     return found, left
 
 

@@ -25,7 +25,7 @@ class Sheets:
     def read_all(self, elements, places, reader):
         """Reads each sheet of the page into the reader."""
         with open(OWN_SHEET, "rb") as file:
-            reader.read(nodes_of(file.read()), Scope(OWN_NAME, author=False))
+            reader.read_sheet(nodes_of(file.read()), Scope(OWN_NAME, author=False))
         numbers = {"style": 0, "link": 0}
         for element in elements:
             name = element.wrapper.local_name.lower()
@@ -35,11 +35,11 @@ class Sheets:
             numbers[name] += 1
             if element.is_html("style") and self.applies(element):
                 text = element.wrapper.etree_element.text or ""
-                reader.read(nodes_of(text), Scope(self.page, start.content_line))
+                reader.read_sheet(nodes_of(text), Scope(self.page, start.content_line))
             elif element.is_html("link") and is_sheet(element) and self.applies(element):
                 loaded = self.load(element.get("href"), Scope(self.page), element.line)
                 if loaded is not None:
-                    reader.read(*loaded)
+                    reader.read_sheet(*loaded)
 
     def applies(self, element):
         """Whether the media attribute of an element holds, and its type is CSS."""

@@ -95,31 +95,38 @@ def read_page(words, *more):
 
 def compute(words, data):
     """Computes a document, and says more where there is more to say; gives the exit status."""
-    answer = answer_to(words, data)
+    answer, data = answer_and_document(words, data)
     if answer is None:
         return NO_PROGRAM
-    if answer.status == NOT_BUILT and is_page(words.file):
-        tell("the program doesn't build ordinary properties and @property yet: these are the custom properties alone")
-        data = read_page(words, "--only-custom")
-        answer = answer_to(words, data)
     write_report(named_report(answer.report, data) if words.names else answer.report)
     sys.stderr.write(answer.line)
-    hint(answer.status, answer.line, data)
+    if not is_page(words.file):
+        hint(answer.status, answer.line, data)
     return answer.status
 
 
-def answer_to(words, data):
+def answer_and_document(words, data, caught=False):
+    """The answer to a document, and that document; of a page the custom properties alone where the program builds no others."""
+    answer = answer_to(words, data, caught)
+    if answer is not None and answer.status == NOT_BUILT and is_page(words.file):
+        tell("the program doesn't build ordinary properties and @property yet: these are the custom properties alone")
+        data = read_page(words, "--only-custom")
+        answer = answer_to(words, data, caught)
+    return answer, data
+
+
+def answer_to(words, data, caught):
     """The answer of the proved program, or a first look; None where no program could be had."""
     if program.is_current():
-        return run_proved(words, data)
+        return run_proved(words, data, caught or is_page(words.file))
     trying.warn(data)
     return trying.look(words, data)
 
 
-def run_proved(words, data):
-    """Runs the proved program. But for what is read again here its report goes straight to standard output."""
-    caught = subprocess.PIPE if is_page(words.file) else None
-    ended = subprocess.run([program.PROGRAM, words.job, *words.options], input=data, stdout=caught, stderr=subprocess.PIPE)
+def run_proved(words, data, caught):
+    """Runs the proved program. Where its report isn't caught it goes straight to standard output."""
+    sink = subprocess.PIPE if caught else None
+    ended = subprocess.run([program.PROGRAM, words.job, *words.options], input=data, stdout=sink, stderr=subprocess.PIPE)
     status = ended.returncode if ended.returncode >= 0 else 128 - ended.returncode
     return Answer(status, ended.stderr.decode("utf-8", "replace"), ended.stdout or b"")
 
@@ -127,7 +134,7 @@ def run_proved(words, data):
 def named_report(report, data):
     """A report in which elements are named by their labels in the document."""
     labels = [element.get("label", "") for element in read_json(data)["elements"]]
-    return with_labels(report.decode("utf-8"), labels).encode("utf-8")
+    return with_labels(report, labels)
 
 
 def write_report(report):

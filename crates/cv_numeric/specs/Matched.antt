@@ -10,6 +10,24 @@ mapped f No = No
 mapped f Out = Out
 mapped f (Fit a) = Fit (f a)
 
+-- it holds of the value, where there is one
+abbrev pub IfFit : {A : Type 0} → (A → Type 0) → Matched A → Type 0
+IfFit P No = Unit {0}
+IfFit P Out = Unit {0}
+IfFit P (Fit a) = P a
+
+-- the second is the first with its value made into another by such a step
+abbrev pub IsMapped : {A B : Type 0} → (A → B → Type 0) → Matched A → Matched B → Type 0
+IsMapped R No No = Unit {0}
+IsMapped R No Out = ⊥
+IsMapped R No (Fit b) = ⊥
+IsMapped R Out No = ⊥
+IsMapped R Out Out = Unit {0}
+IsMapped R Out (Fit b) = ⊥
+IsMapped R (Fit a) No = ⊥
+IsMapped R (Fit a) Out = ⊥
+IsMapped R (Fit a) (Fit b) = R a b
+
 -- both together: no match where one is none, else out of range where one is
 abbrev pub both : {A B C : Type 0} → (A → B → C) → Matched A → Matched B → Matched C
 both f No o = No

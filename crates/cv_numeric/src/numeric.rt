@@ -45,11 +45,8 @@ fn measured(
 ) -> Result<Matched<Frac>, AllocError>
     ensures { IfOk result (λ o. o ≡ numeric.measured quantity range x.now tokens.now) }
 {
-    match calculation(alloc, quantity, range, tokens, &with_basis(Basis::Plain, x))? {
-        Matched::Fit(c) => Ok(Matched::Fit(value_of(&c))),
-        Matched::Out => Ok(Matched::Out),
-        Matched::No => Ok(Matched::No),
-    }
+    let found = calculation(alloc, quantity, range, tokens, &with_basis(Basis::Plain, x))?;
+    Ok(found.map(|c| value_of(&c)))
 }
 
 /// A number, as `1.5` or `calc(1 / 3)`, within a range (CSS Values and Units 4, "Real Numbers").
@@ -124,11 +121,7 @@ pub fn length_percentage_in(
     ensures { IfOk result (λ o. o ≡ numeric.length_percentage_in range x.now tokens.now) }
 {
     match tokens {
-        [Token::Number(n)] => match zero_length(n) {
-            Matched::Fit(v) => Ok(Matched::Fit(Calc::Num(v, Unit::Px))),
-            Matched::Out => Ok(Matched::Out),
-            Matched::No => Ok(Matched::No),
-        },
+        [Token::Number(n)] => Ok(zero_length(n).map(|v| Calc::Num(v, Unit::Px))),
         _ => calculation(alloc, Quantity::LengthPercentage, range, tokens, x),
     }
 }
@@ -178,10 +171,9 @@ pub fn integer(alloc: Global, tokens: &[Token], x: &Context) -> Result<Matched<i
 {
     match tokens {
         [Token::Number(n)] => Ok(whole_number(n)),
-        _ => match measured(alloc, Quantity::Number, Range::All, tokens, x)? {
-            Matched::Fit(value) => Ok(Matched::Fit(value.round_half_up())),
-            Matched::Out => Ok(Matched::Out),
-            Matched::No => Ok(Matched::No),
-        },
+        _ => {
+            let number = measured(alloc, Quantity::Number, Range::All, tokens, x)?;
+            Ok(number.map(|value| value.round_half_up()))
+        }
     }
 }

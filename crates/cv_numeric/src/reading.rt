@@ -129,11 +129,7 @@ fn taken(
     if !takes_calc(quantity, c) {
         return Ok(Matched::No);
     }
-    match simplified(alloc, c, x)? {
-        Matched::Fit(simple) => Ok(Matched::Fit(clamped_calc(range, simple))),
-        Matched::Out => Ok(Matched::Out),
-        Matched::No => Ok(Matched::No),
-    }
+    Ok(simplified(alloc, c, x)?.map(|simple| clamped_calc(range, simple)))
 }
 
 /// A math function.

@@ -1,5 +1,6 @@
 pub mod Arithmetic
 pub mod Conversion
+pub mod Numeric
 pub mod Parsed
 pub mod Refusal
 pub mod SumValue

@@ -8,10 +8,11 @@ use Rattle.cv_component.specs.Parts.{trim}
 use Rattle.cv_var.specs.References.{has_var}
 use Rattle.cv_syntax.specs.declared.syntax.Syntax.{Syntax}
 use Rattle.cv_syntax.specs.declared.syntax.Syntax.TheVariants.{Any, Of}
-use Rattle.cv_value_laws.specs.Values.{has_no_keyword, is_keyword}
+use Rattle.cv_syntax.specs.Told.{has_no_keyword}
+use Rattle.cv_value.specs.Kept.{MayBeKept}
+use Rattle.cv_value_laws.specs.Values.{is_keyword}
 use Rattle.cv_valuation.specs.declared.outcome.Outcome.{Outcome}
 use Rattle.cv_valuation.specs.declared.outcome.Outcome.TheVariants.{Tokens, Value, Invalid}
-use Rattle.cv_valuation.specs.Kept.{IsKeptValue}
 use Rattle.cv_props.specs.declared.entry.Entry.{Entry}
 
 -- names and what is registered of them, in the order in which the names were first registered
@@ -35,7 +36,7 @@ IsInitial Any (Tokens list) = IsUniversal list
 IsInitial Any (Value value) = ⊥
 IsInitial Any Invalid = Unit {0}
 IsInitial (Of components) (Tokens list) = ⊥
-IsInitial (Of components) (Value value) = IsKeptValue value
+IsInitial (Of components) (Value value) = MayBeKept value
 IsInitial (Of components) Invalid = ⊥
 
 -- what is registered of a name

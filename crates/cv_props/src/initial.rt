@@ -4,18 +4,18 @@ ghost use Rattle.std.specs.Prelude.{◌≡◌, true, All, IfOk, IfSome};
 ghost use Rattle.cv_spec_text.specs.Splits.{IsSpelt};
 ghost use Rattle.std.specs.Option.{option_copied};
 ghost use Rattle.cv_syntax.specs.declared.syntax.Syntax.TheVariants.{Any};
-ghost use Rattle.cv_value_laws.specs.Values.{has_no_keyword, is_keyword};
+ghost use Rattle.cv_value_laws.specs.Values.{is_keyword};
+ghost use Rattle.cv_syntax.specs.Told.{has_no_keyword};
 ghost use Rattle.cv_props.specs.Registered.{IsInitial};
 ghost use Rattle.cv_props.specs.Registration.{initial_value, is_universal_value, typed_initial, universal_initial};
 
-use crate::font_units::holds_font_unit;
 use cv_calc::Context;
 use cv_component::trim;
 use cv_spec_text::{Run, Token};
 use cv_syntax::Syntax;
 use cv_valuation::Outcome;
-use cv_value::{ValueErr, match_syntax};
-use cv_value_laws::{items_are_free, texts_are_spelt};
+use cv_value::{ValueErr, has_font_unit, match_syntax};
+use cv_value_laws::values_may_be_kept;
 use cv_var::{has_var, is_value};
 use std::alloc::{AllocError, Global};
 
@@ -59,9 +59,8 @@ fn typed_initial(
     ensures value { IfOk result (λ found. found ≡ typed_initial x.now syntax.now value.now) }
     ensures kept { has_no_keyword syntax.now ≡ true → IfOk result (λ found. IfSome found (IsInitial syntax.now)) }
 {
-    items_are_free();
-    texts_are_spelt();
-    if has_var(value) || holds_font_unit(true, value) {
+    values_may_be_kept();
+    if has_var(value) || has_font_unit(true, value) {
         return Ok(None);
     }
     match match_syntax(alloc, syntax, value, x) {

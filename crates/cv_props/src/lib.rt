@@ -4,7 +4,6 @@
 mod decls;
 mod descriptors;
 mod entry;
-mod font_units;
 mod initial;
 mod laws;
 mod note;
@@ -19,7 +18,6 @@ pub use cv_valuation::{
 };
 pub use decls::{Decl, Decls};
 pub use entry::Entry;
-pub use font_units::holds_font_unit;
 pub use laws::winners_are_by_key;
 pub use note::{Note, NotePlace, Why};
 pub use registry::Registry;

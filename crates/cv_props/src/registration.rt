@@ -4,7 +4,6 @@ ghost use Rattle.std.specs.Prelude.{◌≡◌, ◌×◌, ℕ, List, true, map, A
 ghost use Rattle.std.specs.Option.{option_copied};
 ghost use Rattle.cv_spec_text.specs.Splits.{IsSpelt};
 ghost use Rattle.cv_component.specs.Shared.{piece_of};
-ghost use Rattle.cv_value_laws.specs.Values.{has_no_keyword};
 ghost use Rattle.cv_spec_text.specs.Keywords.{is_custom};
 ghost use Rattle.cv_props.specs.Reading.{IsIgnored, IsSpeltRule};
 ghost use Rattle.cv_props.specs.Registered.{IsEntry};
@@ -19,7 +18,7 @@ use cv_calc::{Basis, Context};
 use cv_component::{Rule, SharedPiece, shared_declarations, trim};
 use cv_frac::Frac;
 use cv_spec_text::{Name, Run, Token, copy_tokens};
-use cv_value_laws::syntaxes_have_no_keyword;
+use cv_syntax::syntaxes_have_no_keyword;
 use std::alloc::Global;
 
 /// What relative lengths are in a viewport of this size in px. No unit that is relative to a font is read in it.

@@ -1,4 +1,5 @@
 pub mod Apart
+pub mod Appends
 pub mod Bounds
 pub mod Canonical
 pub mod CleanTexts

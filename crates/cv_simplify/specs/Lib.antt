@@ -7,6 +7,7 @@ pub mod Normal
 pub mod Number
 pub mod Row
 pub mod Simplified
+pub mod Starts
 pub mod Text
 pub mod TypeIn
 pub mod UnitOrder

@@ -1,9 +1,12 @@
-//! What is written of a calculation at the place where it stands.
+//! What is written of a calculation at the place where it stands, before its parts and behind them.
 
-ghost use Rattle.std.specs.Prelude.{◌≡◌, ◌∷◌, ◌++◌, IfOk, codes};
-ghost use Rattle.cv_simplify.specs.Text.{prefix as prefix_of, has_brackets as brackets_of, placed as placed_of, number_placed as number_placed_of, negative_placed as negative_placed_of, inverse_placed as inverse_placed_of, operator as operator_of, call as call_of};
+ghost use Rattle.std.specs.Prelude.{◌≡◌, ◌∷◌, ◌++◌, [], IfOk};
+ghost use Rattle.cv_simplify.specs.Text.{prefix, has_brackets as brackets_of, number_placed, operator};
+ghost use Rattle.cv_simplify.specs.Starts.{start_of, end_of, negative_start, negative_end, inverse_start, inverse_end};
 
-use crate::tokens::{bracketed, call, joined, name_of, number, operator, with_first};
+use crate::tokens::{
+    name_of, write_closing, write_function, write_number, write_opening, write_operator,
+};
 use cv_calc::Unit;
 use cv_frac::Frac;
 use cv_spec_text::Token;
@@ -19,25 +22,31 @@ pub enum Place {
     Argument,
 }
 
-/// What stands before a calculation.
-pub(crate) fn prefix(alloc: Global, place: Place) -> Result<Vec<Token>, AllocError>
-    ensures { IfOk result (λ ts. ts.items ≡ prefix_of place) }
+/// Writes what stands before a calculation.
+#[tactic(auto, using(crate::proofs::Appends::appends))]
+pub(crate) fn write_prefix(place: Place, out: &mut Vec<Token>) -> Result<(), AllocError>
+    ensures { IfOk result (λ _. out.new.items ≡ out.old.items ++ prefix place) }
 {
     match place {
-        Place::Operand | Place::Whole => Ok(Vec::new(alloc)),
-        Place::Added => operator(alloc, '+'),
-        Place::Multiplied => operator(alloc, '*'),
+        Place::Operand | Place::Whole => Ok(()),
+        Place::Added => {
+            write_operator('+', out)?;
+            Ok(())
+        }
+        Place::Multiplied => {
+            write_operator('*', out)?;
+            Ok(())
+        }
         Place::Argument => {
-            let mut tokens = Vec::new(alloc);
-            tokens.push(Token::Comma)?;
-            tokens.push(Token::White)?;
-            Ok(tokens)
+            out.push(Token::Comma)?;
+            out.push(Token::White)?;
+            Ok(())
         }
     }
 }
 
 /// Whether a sum, a product, a negative or an inverse has brackets of its own.
-pub(crate) fn has_brackets(place: Place) -> bool
+fn has_brackets(place: Place) -> bool
     ensures { result ≡ brackets_of place }
 {
     match place {
@@ -49,118 +58,165 @@ pub(crate) fn has_brackets(place: Place) -> bool
     }
 }
 
-/// Tokens at a place.
-pub(crate) fn placed(
-    alloc: Global,
-    place: Place,
-    inner: Vec<Token>,
-) -> Result<Vec<Token>, AllocError>
-    ensures { IfOk result (λ ts. ts.items ≡ placed_of place inner.items) }
+/// Writes what stands before a sum or product, its bracket with it.
+#[tactic(auto, using(crate::proofs::Appends::appends))]
+pub(crate) fn write_start(place: Place, out: &mut Vec<Token>) -> Result<(), AllocError>
+    ensures { IfOk result (λ _. out.new.items ≡ out.old.items ++ start_of place) }
 {
-    let inner = bracketed(alloc, has_brackets(place), inner)?;
-    joined(prefix(alloc, place)?, inner)
+    write_prefix(place, out)?;
+    write_opening(has_brackets(place), out)?;
+    Ok(())
 }
 
-/// A number at a place.
-pub(crate) fn number_placed(
+/// Writes what stands behind a sum or product.
+pub(crate) fn write_end(place: Place, out: &mut Vec<Token>) -> Result<(), AllocError>
+    ensures { IfOk result (λ _. out.new.items ≡ out.old.items ++ end_of place) }
+{
+    write_closing(has_brackets(place), out)?;
+    Ok(())
+}
+
+/// Writes a number that is added, or subtracts its negative.
+#[tactic(auto, using(crate::proofs::Appends::appends))]
+fn write_added(
+    alloc: Global,
+    v: Frac,
+    unit: Unit,
+    out: &mut Vec<Token>,
+) -> Result<(), AllocError>
+    ensures { IfOk result (λ _. out.new.items ≡ out.old.items ++ number_placed Place.Added v unit) }
+{
+    if v.top() < 0 {
+        write_operator('-', out)?;
+        write_number(alloc, true, v.neg(), unit, out)?;
+        Ok(())
+    } else {
+        write_operator('+', out)?;
+        write_number(alloc, true, v, unit, out)?;
+        Ok(())
+    }
+}
+
+/// Writes a number at a place.
+#[tactic(auto, using(crate::proofs::Appends::appends))]
+pub(crate) fn write_placed(
     alloc: Global,
     place: Place,
     v: Frac,
     unit: Unit,
-) -> Result<Vec<Token>, AllocError>
-    ensures { IfOk result (λ ts. ts.items ≡ number_placed_of place v unit) }
+    out: &mut Vec<Token>,
+) -> Result<(), AllocError>
+    ensures { IfOk result (λ _. out.new.items ≡ out.old.items ++ number_placed place v unit) }
 {
     match place {
         Place::Added => {
-            if v.top() < 0 {
-                let positive = number(alloc, true, v.neg(), unit)?;
-                joined(operator(alloc, '-')?, positive)
-            } else {
-                let positive = number(alloc, true, v, unit)?;
-                joined(operator(alloc, '+')?, positive)
-            }
+            write_added(alloc, v, unit, out)?;
+            Ok(())
         }
-        Place::Operand => number(alloc, true, v, unit),
-        Place::Whole => number(alloc, false, v, unit),
-        Place::Multiplied => {
-            let factor = number(alloc, true, v, unit)?;
-            joined(prefix(alloc, place)?, factor)
-        }
-        Place::Argument => {
-            let argument = number(alloc, false, v, unit)?;
-            joined(prefix(alloc, place)?, argument)
+        Place::Operand | Place::Whole | Place::Multiplied | Place::Argument => {
+            write_prefix(place, out)?;
+            write_number(alloc, has_brackets(place), v, unit, out)?;
+            Ok(())
         }
     }
 }
 
-/// A number, a sign and a calculation.
-pub(crate) fn operation(
+/// Writes a number and a sign.
+#[tactic(auto, using(crate::proofs::Appends::appends))]
+fn write_operation(
     alloc: Global,
     number: &[u8],
     sign: char,
-    child: Vec<Token>,
-) -> Result<Vec<Token>, AllocError>
-    ensures { IfOk result (λ ts. ts.items ≡ Token.Number number.now ∷ operator_of sign ++ child.items) }
+    out: &mut Vec<Token>,
+) -> Result<(), AllocError>
+    ensures { IfOk result (λ _. out.new.items ≡ out.old.items ++ Token.Number number.now ∷ operator sign) }
 {
-    let rest = joined(operator(alloc, sign)?, child)?;
-    with_first(alloc, Token::Number(name_of(alloc, number)?), rest)
+    out.push(Token::Number(name_of(alloc, number)?))?;
+    write_operator(sign, out)?;
+    Ok(())
 }
 
-/// The negative of a calculation at a place.
-pub(crate) fn negative_placed(
+/// Writes what stands before the negative of a calculation.
+#[tactic(auto, using(crate::proofs::Appends::appends))]
+pub(crate) fn write_negative_start(
     alloc: Global,
     place: Place,
-    child: Vec<Token>,
-) -> Result<Vec<Token>, AllocError>
-    ensures { IfOk result (λ ts. ts.items ≡ negative_placed_of place child.items) }
+    out: &mut Vec<Token>,
+) -> Result<(), AllocError>
+    ensures { IfOk result (λ _. out.new.items ≡ out.old.items ++ negative_start place) }
 {
     match place {
-        Place::Added => joined(operator(alloc, '-')?, child),
+        Place::Added => {
+            write_operator('-', out)?;
+            Ok(())
+        }
         Place::Operand | Place::Whole | Place::Multiplied | Place::Argument => {
-            placed(alloc, place, operation(alloc, b"-1", '*', child)?)
+            write_start(place, out)?;
+            write_operation(alloc, b"-1", '*', out)?;
+            Ok(())
         }
     }
 }
 
-/// The inverse of a calculation at a place.
-pub(crate) fn inverse_placed(
-    alloc: Global,
-    place: Place,
-    child: Vec<Token>,
-) -> Result<Vec<Token>, AllocError>
-    ensures { IfOk result (λ ts. ts.items ≡ inverse_placed_of place child.items) }
+/// Writes what stands behind the negative of a calculation.
+pub(crate) fn write_negative_end(place: Place, out: &mut Vec<Token>) -> Result<(), AllocError>
+    ensures { IfOk result (λ _. out.new.items ≡ out.old.items ++ negative_end place) }
 {
     match place {
-        Place::Multiplied => joined(operator(alloc, '/')?, child),
-        Place::Operand | Place::Whole | Place::Added | Place::Argument => {
-            placed(alloc, place, operation(alloc, b"1", '/', child)?)
+        Place::Added => Ok(()),
+        Place::Operand | Place::Whole | Place::Multiplied | Place::Argument => {
+            write_end(place, out)?;
+            Ok(())
         }
     }
 }
 
-/// A function at a place.
-pub(crate) fn call_placed(
+/// Writes what stands before the inverse of a calculation.
+#[tactic(auto, using(crate::proofs::Appends::appends))]
+pub(crate) fn write_inverse_start(
+    alloc: Global,
+    place: Place,
+    out: &mut Vec<Token>,
+) -> Result<(), AllocError>
+    ensures { IfOk result (λ _. out.new.items ≡ out.old.items ++ inverse_start place) }
+{
+    match place {
+        Place::Multiplied => {
+            write_operator('/', out)?;
+            Ok(())
+        }
+        Place::Operand | Place::Whole | Place::Added | Place::Argument => {
+            write_start(place, out)?;
+            write_operation(alloc, b"1", '/', out)?;
+            Ok(())
+        }
+    }
+}
+
+/// Writes what stands behind the inverse of a calculation.
+pub(crate) fn write_inverse_end(place: Place, out: &mut Vec<Token>) -> Result<(), AllocError>
+    ensures { IfOk result (λ _. out.new.items ≡ out.old.items ++ inverse_end place) }
+{
+    match place {
+        Place::Multiplied => Ok(()),
+        Place::Operand | Place::Whole | Place::Added | Place::Argument => {
+            write_end(place, out)?;
+            Ok(())
+        }
+    }
+}
+
+/// Writes what stands before the arguments of a function.
+#[tactic(auto, using(crate::proofs::Appends::appends))]
+pub(crate) fn write_call_start(
     alloc: Global,
     place: Place,
     name: &[u8],
-    inner: Vec<Token>,
-) -> Result<Vec<Token>, AllocError>
-    ensures { IfOk result (λ ts. ts.items ≡ prefix_of place ++ call_of name.now inner.items) }
+    out: &mut Vec<Token>,
+) -> Result<(), AllocError>
+    ensures { IfOk result (λ _. out.new.items ≡ out.old.items ++ (prefix place ++ Token.Function name.now ∷ [])) }
 {
-    let function = call(alloc, name, inner)?;
-    joined(prefix(alloc, place)?, function)
-}
-
-/// A number within limits at a place.
-pub(crate) fn clamp_placed(
-    alloc: Global,
-    place: Place,
-    low: Vec<Token>,
-    middle: Vec<Token>,
-    high: Vec<Token>,
-) -> Result<Vec<Token>, AllocError>
-    ensures { IfOk result (λ ts. ts.items ≡ prefix_of place ++ call_of (codes "clamp") ((low.items ++ middle.items) ++ high.items)) }
-{
-    let limits = joined(joined(low, middle)?, high)?;
-    call_placed(alloc, place, b"clamp", limits)
+    write_prefix(place, out)?;
+    write_function(alloc, name, out)?;
+    Ok(())
 }

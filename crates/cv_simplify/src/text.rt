@@ -1,15 +1,16 @@
 //! The text of a calculation, as tokens.
 
-ghost use Rattle.std.specs.Prelude.{◌≡◌, IfOk, map, All};
+ghost use Rattle.std.specs.Prelude.{◌≡◌, ◌++◌, IfOk, map, All, codes};
 ghost use Rattle.cv_spec_text.specs.Splits.{IsSpelt};
 ghost use Rattle.cv_tokser.specs.Clean.{IsClean};
-ghost use Rattle.cv_simplify.specs.Text.{written, with_ranked as line_with_ranked, line_of, arguments_of, calc_text};
+ghost use Rattle.cv_simplify.specs.Text.{written, with_ranked, line_of, arguments_of, call, calc_text};
 
 use crate::place::{
-    Place, call_placed, clamp_placed, inverse_placed, negative_placed, number_placed, placed,
+    Place, write_call_start, write_end, write_inverse_end, write_inverse_start, write_negative_end,
+    write_negative_start, write_placed, write_start,
 };
 use crate::rank::{LAST_RANK, RANKS, unit_rank};
-use crate::tokens::{call, joined, number_alone};
+use crate::tokens::{write_alone, write_closing, write_function};
 use cv_calc::Calc;
 use cv_spec_text::Token;
 use std::alloc::{AllocError, Global};
@@ -31,95 +32,120 @@ fn rank(c: &Calc) -> u32
     }
 }
 
-/// A calculation at a place.
+/// Writes a calculation at a place.
 #[cycle(text)]
-#[tactic(auto, using(crate::proofs::Texts::written_equations))]
-fn part(alloc: Global, place: Place, c: &Calc) -> Result<Vec<Token>, AllocError>
-    ensures { IfOk result (λ ts. ts.items ≡ (written c.now).at_place place) }
+#[tactic(auto, using(crate::proofs::Appends::texts))]
+fn write_part(
+    alloc: Global,
+    place: Place,
+    c: &Calc,
+    out: &mut Vec<Token>,
+) -> Result<(), AllocError>
+    ensures { IfOk result (λ _. out.new.items ≡ out.old.items ++ (written c.now).at_place place) }
 {
     match c {
-        Calc::Num(v, unit) => number_placed(alloc, place, *v, *unit),
+        Calc::Num(v, unit) => {
+            write_placed(alloc, place, *v, *unit, out)?;
+            Ok(())
+        }
         Calc::Sum(children) => {
-            let inner = line(alloc, Place::Added, children.as_slice())?;
-            placed(alloc, place, inner)
+            write_start(place, out)?;
+            write_line(alloc, Place::Added, children.as_slice(), out)?;
+            write_end(place, out)?;
+            Ok(())
         }
         Calc::Product(children) => {
-            let inner = line(alloc, Place::Multiplied, children.as_slice())?;
-            placed(alloc, place, inner)
+            write_start(place, out)?;
+            write_line(alloc, Place::Multiplied, children.as_slice(), out)?;
+            write_end(place, out)?;
+            Ok(())
         }
         Calc::Negate(child) => {
-            let inner = part(alloc, Place::Operand, child.get())?;
-            negative_placed(alloc, place, inner)
+            write_negative_start(alloc, place, out)?;
+            write_part(alloc, Place::Operand, child.get(), out)?;
+            write_negative_end(place, out)?;
+            Ok(())
         }
         Calc::Invert(child) => {
-            let inner = part(alloc, Place::Operand, child.get())?;
-            inverse_placed(alloc, place, inner)
+            write_inverse_start(alloc, place, out)?;
+            write_part(alloc, Place::Operand, child.get(), out)?;
+            write_inverse_end(place, out)?;
+            Ok(())
         }
         Calc::Min(children) => {
-            let inner = arguments(alloc, children.as_slice())?;
-            call_placed(alloc, place, b"min", inner)
+            write_call_start(alloc, place, b"min", out)?;
+            write_arguments(alloc, children.as_slice(), out)?;
+            write_closing(true, out)?;
+            Ok(())
         }
         Calc::Max(children) => {
-            let inner = arguments(alloc, children.as_slice())?;
-            call_placed(alloc, place, b"max", inner)
+            write_call_start(alloc, place, b"max", out)?;
+            write_arguments(alloc, children.as_slice(), out)?;
+            write_closing(true, out)?;
+            Ok(())
         }
         Calc::Clamp(low, middle, high) => {
-            let first = part(alloc, Place::Whole, low.get())?;
-            let second = part(alloc, Place::Argument, middle.get())?;
-            let third = part(alloc, Place::Argument, high.get())?;
-            clamp_placed(alloc, place, first, second, third)
+            write_call_start(alloc, place, b"clamp", out)?;
+            write_part(alloc, Place::Whole, low.get(), out)?;
+            write_part(alloc, Place::Argument, middle.get(), out)?;
+            write_part(alloc, Place::Argument, high.get(), out)?;
+            write_closing(true, out)?;
+            Ok(())
         }
     }
 }
 
-/// The children of a rank, behind those that are written already, and whether there is one now.
+/// Writes the children of a rank behind those that are written already, and tells whether there is one now.
 #[cycle(text)]
-fn ranked(
+fn write_ranked(
     alloc: Global,
     further: Place,
     rank_now: u32,
     children: &[Calc],
-    line: Vec<Token>,
     started: bool,
-) -> Result<(Vec<Token>, bool), AllocError>
-    ensures { IfOk result (λ r. record { line = r.0.items; started = r.1 } ≡ line_with_ranked further (map written children.now) (record { line = line.items; started = started }) rank_now) }
+    out: &mut Vec<Token>,
+) -> Result<bool, AllocError>
+    ensures { IfOk result (λ now. record { line = out.new.items; started = now } ≡ with_ranked further (map written children.now) (record { line = out.old.items; started = started }) rank_now) }
 {
-    let mut line = line;
     let mut started = started;
     for child in children {
         if rank(child) != rank_now {
             continue;
         }
         let place = if started { further } else { Place::Operand };
-        let more = part(alloc, place, child)?;
-        line = joined(line, more)?;
+        write_part(alloc, place, child, out)?;
         started = true;
     }
-    Ok((line, started))
+    Ok(started)
 }
 
-/// The children of a sum or product, rank after rank.
+/// Writes the children of a sum or product, rank after rank.
 #[cycle(text)]
 #[tactic(auto, using(crate::proofs::Texts::ranks))]
-fn line(alloc: Global, further: Place, children: &[Calc]) -> Result<Vec<Token>, AllocError>
-    ensures { IfOk result (λ ts. ts.items ≡ line_of further (map written children.now)) }
+fn write_line(
+    alloc: Global,
+    further: Place,
+    children: &[Calc],
+    out: &mut Vec<Token>,
+) -> Result<(), AllocError>
+    ensures { IfOk result (λ _. out.new.items ≡ out.old.items ++ line_of further (map written children.now)) }
 {
-    let mut line = Vec::new(alloc);
     let mut started = false;
     for rank_now in 0..RANKS {
-        let (next, begun) = ranked(alloc, further, rank_now, children, line, started)?;
-        line = next;
-        started = begun;
+        started = write_ranked(alloc, further, rank_now, children, started, out)?;
     }
-    Ok(line)
+    Ok(())
 }
 
-/// The arguments of a function.
+/// Writes the arguments of a function.
 #[cycle(text)]
-fn arguments(alloc: Global, children: &[Calc]) -> Result<Vec<Token>, AllocError>
-    ensures { IfOk result (λ ts. ts.items ≡ arguments_of (map written children.now)) }
+fn write_arguments(
+    alloc: Global,
+    children: &[Calc],
+    out: &mut Vec<Token>,
+) -> Result<(), AllocError>
+    ensures { IfOk result (λ _. out.new.items ≡ out.old.items ++ arguments_of (map written children.now)) }
 {
-    let mut line = Vec::new(alloc);
     let mut started = false;
     for child in children {
         let place = if started {
@@ -127,26 +153,40 @@ fn arguments(alloc: Global, children: &[Calc]) -> Result<Vec<Token>, AllocError>
         } else {
             Place::Whole
         };
-        let more = part(alloc, place, child)?;
-        line = joined(line, more)?;
+        write_part(alloc, place, child, out)?;
         started = true;
     }
-    Ok(line)
+    Ok(())
 }
 
-/// The tokens of a calculation that stands alone.
+/// Writes a calculation as the argument of `calc`.
+#[tactic(auto, using(crate::proofs::Appends::appends))]
+fn write_calc(alloc: Global, c: &Calc, out: &mut Vec<Token>) -> Result<(), AllocError>
+    ensures { IfOk result (λ _. out.new.items ≡ out.old.items ++ call (codes "calc") ((written c.now).at_place Place.Whole)) }
+{
+    write_function(alloc, b"calc", out)?;
+    write_part(alloc, Place::Whole, c, out)?;
+    write_closing(true, out)?;
+    Ok(())
+}
+
+/// Writes a calculation that stands alone.
 #[tactic(auto, unfolding(crate::specs::Text::calc_text))]
-fn whole(alloc: Global, c: &Calc) -> Result<Vec<Token>, AllocError>
-    ensures { IfOk result (λ ts. ts.items ≡ calc_text c.now) }
+fn write_whole(alloc: Global, c: &Calc, out: &mut Vec<Token>) -> Result<(), AllocError>
+    ensures { IfOk result (λ _. out.new.items ≡ out.old.items ++ calc_text c.now) }
 {
     match c {
-        Calc::Num(v, unit) => number_alone(alloc, *v, *unit),
-        Calc::Min(_) => part(alloc, Place::Whole, c),
-        Calc::Max(_) => part(alloc, Place::Whole, c),
-        Calc::Clamp(_, _, _) => part(alloc, Place::Whole, c),
+        Calc::Num(v, unit) => {
+            write_alone(alloc, *v, *unit, out)?;
+            Ok(())
+        }
+        Calc::Min(_) | Calc::Max(_) | Calc::Clamp(_, _, _) => {
+            write_part(alloc, Place::Whole, c, out)?;
+            Ok(())
+        }
         _ => {
-            let inner = part(alloc, Place::Whole, c)?;
-            call(alloc, b"calc", inner)
+            write_calc(alloc, c, out)?;
+            Ok(())
         }
     }
 }
@@ -157,5 +197,7 @@ pub fn calc_tokens(alloc: Global, c: &Calc) -> Result<Vec<Token>, AllocError>
     ensures spelt { IfOk result (λ ts. All IsSpelt ts.items) }
     ensures clean { IfOk result (λ ts. IsClean ts.items) }
 {
-    whole(alloc, c)
+    let mut tokens = Vec::new(alloc);
+    write_whole(alloc, c, &mut tokens)?;
+    Ok(tokens)
 }

@@ -1,7 +1,9 @@
-//! Tokens of numbers, signs, functions and brackets.
+//! Tokens of numbers, signs, functions and brackets, written behind others.
 
-ghost use Rattle.std.specs.Prelude.{◌≡◌, ◌∷◌, ◌++◌, IfOk};
-ghost use Rattle.cv_simplify.specs.Text.{numeric as numeric_of, decimal_tokens as decimal_of, quotient_tokens as quotient_of, number_tokens as number_of, number_alone as number_alone_of, bracketed as bracketed_of, operator as operator_of, call as call_of};
+ghost use Rattle.std.specs.Prelude.{◌≡◌, ◌∷◌, ◌++◌, [], IfOk, decimal};
+ghost use Rattle.std.specs.Fmt.{signed_decimal};
+ghost use Rattle.cv_simplify.specs.Text.{numeric as numeric_of, decimal_tokens, quotient_tokens, number_tokens, number_alone, operator};
+ghost use Rattle.cv_simplify.specs.Starts.{opening_if, closing_if};
 
 use cv_calc::{Unit, unit_name};
 use cv_frac::Frac;
@@ -34,113 +36,154 @@ pub(crate) fn numeric(alloc: Global, spelling: Name, unit: Unit) -> Result<Token
     }
 }
 
-/// A sign with a space on both sides.
-pub(crate) fn operator(alloc: Global, sign: char) -> Result<Vec<Token>, AllocError>
-    ensures { IfOk result (λ ts. ts.items ≡ operator_of sign) }
+/// Writes a sign with a space on both sides.
+#[tactic(auto, using(crate::proofs::Appends::appends))]
+pub(crate) fn write_operator(sign: char, out: &mut Vec<Token>) -> Result<(), AllocError>
+    ensures { IfOk result (λ _. out.new.items ≡ out.old.items ++ operator sign) }
 {
-    let mut tokens = Vec::new(alloc);
-    tokens.push(Token::White)?;
-    tokens.push(Token::Delim(sign))?;
-    tokens.push(Token::White)?;
-    Ok(tokens)
+    out.push(Token::White)?;
+    out.push(Token::Delim(sign))?;
+    out.push(Token::White)?;
+    Ok(())
 }
 
-/// Some tokens and others behind them.
-pub(crate) fn joined(mut tokens: Vec<Token>, mut more: Vec<Token>) -> Result<Vec<Token>, AllocError>
-    ensures { IfOk result (λ ts. ts.items ≡ tokens.items ++ more.items) }
-{
-    tokens.append(&mut more)?;
-    Ok(tokens)
-}
-
-/// A token and others behind it.
-pub(crate) fn with_first(
-    alloc: Global,
-    token: Token,
-    more: Vec<Token>,
-) -> Result<Vec<Token>, AllocError>
-    ensures { IfOk result (λ ts. ts.items ≡ token ∷ more.items) }
-{
-    let mut tokens = Vec::new(alloc);
-    tokens.push(token)?;
-    joined(tokens, more)
-}
-
-/// A function with its arguments.
-pub(crate) fn call(
+/// Writes a function up to its arguments.
+pub(crate) fn write_function(
     alloc: Global,
     name: &[u8],
-    mut inner: Vec<Token>,
-) -> Result<Vec<Token>, AllocError>
-    ensures { IfOk result (λ ts. ts.items ≡ call_of name.now inner.items) }
+    out: &mut Vec<Token>,
+) -> Result<(), AllocError>
+    ensures { IfOk result (λ _. out.new.items ≡ out.old.items ++ Token.Function name.now ∷ []) }
 {
-    inner.push(Token::Close(Bracket::Round))?;
-    with_first(alloc, Token::Function(name_of(alloc, name)?), inner)
+    out.push(Token::Function(name_of(alloc, name)?))?;
+    Ok(())
 }
 
-/// Tokens with brackets round them, or without.
-pub(crate) fn bracketed(
-    alloc: Global,
-    brackets: bool,
-    mut inner: Vec<Token>,
-) -> Result<Vec<Token>, AllocError>
-    ensures { IfOk result (λ ts. ts.items ≡ bracketed_of brackets inner.items) }
+/// Writes an opening bracket, where there is one.
+pub(crate) fn write_opening(brackets: bool, out: &mut Vec<Token>) -> Result<(), AllocError>
+    ensures { IfOk result (λ _. out.new.items ≡ out.old.items ++ opening_if brackets) }
 {
     if brackets {
-        inner.push(Token::Close(Bracket::Round))?;
-        with_first(alloc, Token::Open(Bracket::Round), inner)
-    } else {
-        Ok(inner)
+        out.push(Token::Open(Bracket::Round))?;
     }
+    Ok(())
 }
 
-/// The decimal of a number.
-pub(crate) fn decimal(alloc: Global, v: Frac, unit: Unit) -> Result<Vec<Token>, AllocError>
-    ensures { IfOk result (λ ts. ts.items ≡ decimal_of v unit) }
+/// Writes a closing bracket, where there is one.
+pub(crate) fn write_closing(brackets: bool, out: &mut Vec<Token>) -> Result<(), AllocError>
+    ensures { IfOk result (λ _. out.new.items ≡ out.old.items ++ closing_if brackets) }
+{
+    if brackets {
+        out.push(Token::Close(Bracket::Round))?;
+    }
+    Ok(())
+}
+
+/// Writes the decimal of a number.
+fn write_decimal(
+    alloc: Global,
+    v: Frac,
+    unit: Unit,
+    out: &mut Vec<Token>,
+) -> Result<(), AllocError>
+    ensures { IfOk result (λ _. out.new.items ≡ out.old.items ++ decimal_tokens v unit) }
 {
     let mut text = Vec::new(alloc);
     v.write(alloc, &mut text)?;
     let spelling = name_of(alloc, &text)?;
-    let token = numeric(alloc, spelling, unit)?;
-    let mut tokens = Vec::new(alloc);
-    tokens.push(token)?;
-    Ok(tokens)
+    out.push(numeric(alloc, spelling, unit)?)?;
+    Ok(())
 }
 
-/// The two numbers of a number.
-pub(crate) fn quotient(alloc: Global, v: Frac, unit: Unit) -> Result<Vec<Token>, AllocError>
-    ensures { IfOk result (λ ts. ts.items ≡ quotient_of v unit) }
+/// Writes a number over another.
+#[tactic(auto, using(crate::proofs::Appends::appends))]
+fn write_over(top: Token, bottom: Token, out: &mut Vec<Token>) -> Result<(), AllocError>
+    ensures { IfOk result (λ _. out.new.items ≡ out.old.items ++ top ∷ operator 0x2f ++ bottom ∷ []) }
+{
+    out.push(top)?;
+    write_operator('/', out)?;
+    out.push(bottom)?;
+    Ok(())
+}
+
+/// The upper of the two numbers of a number, with its unit.
+fn top_of(alloc: Global, v: Frac, unit: Unit) -> Result<Token, AllocError>
+    ensures { IfOk result (λ token. token ≡ numeric_of (signed_decimal v.top) unit) }
 {
     let mut buffer = Buffer::new();
-    let top = name_of(alloc, buffer.format(v.top()).as_bytes())?;
-    let bottom = name_of(alloc, buffer.format(v.bottom().unsigned_abs()).as_bytes())?;
-    let first = numeric(alloc, top, unit)?;
-    let mut rest = operator(alloc, '/')?;
-    rest.push(Token::Number(bottom))?;
-    with_first(alloc, first, rest)
+    let spelling = name_of(alloc, buffer.format(v.top()).as_bytes())?;
+    numeric(alloc, spelling, unit)
 }
 
-/// A number, in brackets where it is a quotient and they are wanted.
-pub(crate) fn number(
+/// The lower of the two numbers of a number.
+fn bottom_of(alloc: Global, v: Frac) -> Result<Token, AllocError>
+    ensures { IfOk result (λ token. token ≡ Token.Number (decimal v.bottom)) }
+{
+    let mut buffer = Buffer::new();
+    let spelling = name_of(alloc, buffer.format(v.bottom().unsigned_abs()).as_bytes())?;
+    Ok(Token::Number(spelling))
+}
+
+/// Writes the two numbers of a number.
+fn write_quotient(
+    alloc: Global,
+    v: Frac,
+    unit: Unit,
+    out: &mut Vec<Token>,
+) -> Result<(), AllocError>
+    ensures { IfOk result (λ _. out.new.items ≡ out.old.items ++ quotient_tokens v unit) }
+{
+    let top = top_of(alloc, v, unit)?;
+    let bottom = bottom_of(alloc, v)?;
+    write_over(top, bottom, out)?;
+    Ok(())
+}
+
+/// Writes a number, in brackets where it is a quotient and they are wanted.
+#[tactic(auto, using(crate::proofs::Appends::appends))]
+pub(crate) fn write_number(
     alloc: Global,
     brackets: bool,
     v: Frac,
     unit: Unit,
-) -> Result<Vec<Token>, AllocError>
-    ensures { IfOk result (λ ts. ts.items ≡ number_of brackets v unit) }
+    out: &mut Vec<Token>,
+) -> Result<(), AllocError>
+    ensures { IfOk result (λ _. out.new.items ≡ out.old.items ++ number_tokens brackets v unit) }
 {
     match v.places() {
-        Some(_) => decimal(alloc, v, unit),
-        None => bracketed(alloc, brackets, quotient(alloc, v, unit)?),
+        Some(_) => {
+            write_decimal(alloc, v, unit, out)?;
+            Ok(())
+        }
+        None => {
+            write_opening(brackets, out)?;
+            write_quotient(alloc, v, unit, out)?;
+            write_closing(brackets, out)?;
+            Ok(())
+        }
     }
 }
 
-/// A number alone.
-pub(crate) fn number_alone(alloc: Global, v: Frac, unit: Unit) -> Result<Vec<Token>, AllocError>
-    ensures { IfOk result (λ ts. ts.items ≡ number_alone_of v unit) }
+/// Writes a number alone.
+#[tactic(auto, using(crate::proofs::Appends::appends))]
+pub(crate) fn write_alone(
+    alloc: Global,
+    v: Frac,
+    unit: Unit,
+    out: &mut Vec<Token>,
+) -> Result<(), AllocError>
+    ensures { IfOk result (λ _. out.new.items ≡ out.old.items ++ number_alone v unit) }
 {
     match v.places() {
-        Some(_) => decimal(alloc, v, unit),
-        None => call(alloc, b"calc", quotient(alloc, v, unit)?),
+        Some(_) => {
+            write_decimal(alloc, v, unit, out)?;
+            Ok(())
+        }
+        None => {
+            write_function(alloc, b"calc", out)?;
+            write_quotient(alloc, v, unit, out)?;
+            write_closing(true, out)?;
+            Ok(())
+        }
     }
 }

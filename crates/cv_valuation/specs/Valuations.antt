@@ -9,6 +9,7 @@ use Rattle.cv_spec_text.specs.declared.token.Token.{Token}
 use Rattle.cv_component.specs.Parts.{trim}
 use Rattle.cv_var.specs.References.{has_var}
 use Rattle.cv_value.specs.declared.typed.Typed.{Typed}
+use Rattle.cv_value.specs.Kept.{MayBeKept}
 use Rattle.cv_value.specs.Text.{typed_text}
 use Rattle.cv_value_laws.specs.Values.{is_keyword}
 use Rattle.cv_valuation.specs.declared.key.Key.{Key}
@@ -16,7 +17,7 @@ use Rattle.cv_valuation.specs.declared.key.Key.TheVariants.{Custom, Table}
 use Rattle.cv_valuation.specs.declared.outcome.Outcome.{Outcome}
 use Rattle.cv_valuation.specs.declared.outcome.Outcome.TheVariants.{Tokens, Value, Invalid}
 use Rattle.cv_valuation.specs.Keys.{is_custom_key, is_key, key_cmp}
-use Rattle.cv_valuation.specs.Kept.{Kept, tokens, typed, IsKeptValue}
+use Rattle.cv_valuation.specs.Kept.{Kept, tokens, typed}
 
 -- what stands for the keys that aren't invalid
 abbrev pub Values : Type 0
@@ -58,7 +59,7 @@ pub record IsKept (key : Key) (list : List Token) : Type 0 where
 -- what may be kept for a key: such tokens; a typed value, for a custom property as for an ordinary one; or the guaranteed-invalid value
 abbrev pub MayKeep : Key → Outcome → Type 0
 MayKeep key (Tokens list) = IsKept key list
-MayKeep key (Value value) = (is_key key ≡ true) × IsKeptValue value
+MayKeep key (Value value) = (is_key key ≡ true) × MayBeKept value
 MayKeep key Invalid = Unit {0}
 
 -- a text behind a space, and nothing where it is empty

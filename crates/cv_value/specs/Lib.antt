@@ -2,3 +2,4 @@ pub mod Items
 pub mod Matching
 pub mod Text
 pub mod Alike
+pub mod Kept

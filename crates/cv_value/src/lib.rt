@@ -2,6 +2,7 @@
 #![tactic(auto)]
 
 pub mod error;
+mod fonts;
 mod laws;
 mod list;
 mod many;
@@ -11,6 +12,7 @@ mod text;
 pub mod typed;
 
 pub use error::ValueErr;
+pub use fonts::has_font_unit;
 pub use laws::mismatch_is_alike;
 pub use matching::match_syntax;
 pub use std::alloc::AllocError as OutOfMemory;

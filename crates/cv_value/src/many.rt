@@ -22,20 +22,17 @@ pub(crate) fn component(
     ensures { IfOk result (λ o. o ≡ matching.component x.now tokens.now component.now) }
 {
     match component.many {
-        Many::One => match item(alloc, &component.kind, tokens, x)? {
-            Matched::Fit(item) => Ok(Matched::Fit(Typed::One(item))),
-            Matched::Out => Ok(Matched::Out),
-            Matched::No => Ok(Matched::No),
-        },
-        Many::Spaces => match spaced(alloc, &component.kind, tokens, x)? {
-            Matched::Fit(items) => Ok(Matched::Fit(Typed::Spaces(items))),
-            Matched::Out => Ok(Matched::Out),
-            Matched::No => Ok(Matched::No),
-        },
-        Many::Commas => match with_commas(alloc, &component.kind, tokens, x)? {
-            Matched::Fit(items) => Ok(Matched::Fit(Typed::Commas(items))),
-            Matched::Out => Ok(Matched::Out),
-            Matched::No => Ok(Matched::No),
-        },
+        Many::One => {
+            let found = item(alloc, &component.kind, tokens, x)?;
+            Ok(found.map(|item| Typed::One(item)))
+        }
+        Many::Spaces => {
+            let found = spaced(alloc, &component.kind, tokens, x)?;
+            Ok(found.map(|items| Typed::Spaces(items)))
+        }
+        Many::Commas => {
+            let found = with_commas(alloc, &component.kind, tokens, x)?;
+            Ok(found.map(|items| Typed::Commas(items)))
+        }
     }
 }

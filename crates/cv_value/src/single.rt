@@ -1,12 +1,10 @@
 //! What a list is as one item.
 
 ghost use Rattle.std.specs.Prelude.{◌≡◌, IfOk};
-ghost use Rattle.cv_numeric.specs.Matched.{mapped};
 ghost use Rattle.cv_value.specs.Items as items;
 
 use crate::typed::Item;
 use cv_calc::{Calc, Context, Unit};
-use cv_color::Color;
 use cv_colorread::read_color;
 use cv_component::trim_front;
 use cv_frac::Frac;
@@ -124,105 +122,6 @@ fn literal(word: &Name, tokens: &[Token]) -> Result<Matched<Item>, AllocError>
     }
 }
 
-/// A number as an item.
-fn number_item(o: Matched<Frac>) -> Matched<Item>
-    ensures { result ≡ mapped Item.Number o }
-{
-    match o {
-        Matched::Fit(v) => Matched::Fit(Item::Number(v)),
-        Matched::Out => Matched::Out,
-        Matched::No => Matched::No,
-    }
-}
-
-/// A whole number as an item.
-fn integer_item(o: Matched<i64>) -> Matched<Item>
-    ensures { result ≡ mapped Item.Integer o }
-{
-    match o {
-        Matched::Fit(v) => Matched::Fit(Item::Integer(v)),
-        Matched::Out => Matched::Out,
-        Matched::No => Matched::No,
-    }
-}
-
-/// A percentage as an item.
-fn percentage_item(o: Matched<Frac>) -> Matched<Item>
-    ensures { result ≡ mapped Item.Percentage o }
-{
-    match o {
-        Matched::Fit(v) => Matched::Fit(Item::Percentage(v)),
-        Matched::Out => Matched::Out,
-        Matched::No => Matched::No,
-    }
-}
-
-/// A length as an item.
-fn length_item(o: Matched<Frac>) -> Matched<Item>
-    ensures { result ≡ mapped Item.Length o }
-{
-    match o {
-        Matched::Fit(v) => Matched::Fit(Item::Length(v)),
-        Matched::Out => Matched::Out,
-        Matched::No => Matched::No,
-    }
-}
-
-/// An angle as an item.
-fn angle_item(o: Matched<Frac>) -> Matched<Item>
-    ensures { result ≡ mapped Item.Angle o }
-{
-    match o {
-        Matched::Fit(v) => Matched::Fit(Item::Angle(v)),
-        Matched::Out => Matched::Out,
-        Matched::No => Matched::No,
-    }
-}
-
-/// A time as an item.
-fn time_item(o: Matched<Frac>) -> Matched<Item>
-    ensures { result ≡ mapped Item.Time o }
-{
-    match o {
-        Matched::Fit(v) => Matched::Fit(Item::Time(v)),
-        Matched::Out => Matched::Out,
-        Matched::No => Matched::No,
-    }
-}
-
-/// A resolution as an item.
-fn resolution_item(o: Matched<Frac>) -> Matched<Item>
-    ensures { result ≡ mapped Item.Resolution o }
-{
-    match o {
-        Matched::Fit(v) => Matched::Fit(Item::Resolution(v)),
-        Matched::Out => Matched::Out,
-        Matched::No => Matched::No,
-    }
-}
-
-/// A colour as an item.
-fn color_item(o: Matched<Color>) -> Matched<Item>
-    ensures { result ≡ mapped Item.Color o }
-{
-    match o {
-        Matched::Fit(v) => Matched::Fit(Item::Color(v)),
-        Matched::Out => Matched::Out,
-        Matched::No => Matched::No,
-    }
-}
-
-/// A length, a percentage or both together as an item.
-fn mixed_matched(o: Matched<Calc>) -> Matched<Item>
-    ensures { result ≡ mapped items.mixed_item o }
-{
-    match o {
-        Matched::Fit(c) => Matched::Fit(mixed_item(c)),
-        Matched::Out => Matched::Out,
-        Matched::No => Matched::No,
-    }
-}
-
 /// What a list is as one item of a kind.
 pub(crate) fn item(
     alloc: Global,
@@ -233,18 +132,19 @@ pub(crate) fn item(
     ensures { IfOk result (λ o. o ≡ items.item kind.now x.now tokens.now) }
 {
     match kind {
-        Kind::Length => Ok(length_item(length(alloc, tokens, x)?)),
-        Kind::Number => Ok(number_item(number(alloc, Range::All, tokens, x)?)),
-        Kind::Percentage => Ok(percentage_item(percentage(alloc, tokens, x)?)),
+        Kind::Length => Ok(length(alloc, tokens, x)?.map(|v| Item::Length(v))),
+        Kind::Number => Ok(number(alloc, Range::All, tokens, x)?.map(|v| Item::Number(v))),
+        Kind::Percentage => Ok(percentage(alloc, tokens, x)?.map(|v| Item::Percentage(v))),
         Kind::LengthPercentage => {
-            Ok(mixed_matched(length_percentage(alloc, Range::All, tokens, x)?))
+            let found = length_percentage(alloc, Range::All, tokens, x)?;
+            Ok(found.map(|c| mixed_item(c)))
         }
-        Kind::Color => Ok(color_item(read_color(alloc, tokens, x)?)),
+        Kind::Color => Ok(read_color(alloc, tokens, x)?.map(|v| Item::Color(v))),
         Kind::Url => url(tokens),
-        Kind::Integer => Ok(integer_item(integer(alloc, tokens, x)?)),
-        Kind::Angle => Ok(angle_item(angle(alloc, tokens, x)?)),
-        Kind::Time => Ok(time_item(time(alloc, tokens, x)?)),
-        Kind::Resolution => Ok(resolution_item(resolution(alloc, tokens, x)?)),
+        Kind::Integer => Ok(integer(alloc, tokens, x)?.map(|v| Item::Integer(v))),
+        Kind::Angle => Ok(angle(alloc, tokens, x)?.map(|v| Item::Angle(v))),
+        Kind::Time => Ok(time(alloc, tokens, x)?.map(|v| Item::Time(v))),
+        Kind::Resolution => Ok(resolution(alloc, tokens, x)?.map(|v| Item::Resolution(v))),
         Kind::Str => string(tokens),
         Kind::CustomIdent => custom_ident(tokens),
         Kind::Literal(word) => literal(word, tokens),

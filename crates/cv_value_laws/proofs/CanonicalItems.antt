@@ -37,7 +37,7 @@ use Rattle.cv_syntax.specs.declared.syntax.Kind.TheVariants as kinds
 use Rattle.cv_value.specs.declared.typed.Item.TheVariants as item_of
 use Rattle.cv_value.specs.Items.{mixed_as, mixed_item, is_end, url_inside, url, string, is_reserved, custom_ident, literal as literal_item, item}
 use Rattle.cv_colorread.specs.Colors.{color}
-use Rattle.cv_value_laws.specs.Values.{IsCanonical}
+use Rattle.cv_value.specs.Kept.{IsCanonical}
 use Rattle.cv_value_laws.proofs.Fits.{IfFit, if_mapped, if_made, if_either}
 
 abbrev IsPure : Calc → Type 0

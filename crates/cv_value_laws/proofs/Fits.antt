@@ -19,7 +19,7 @@ use Rattle.cv_value.specs.declared.typed.Item.{Item}
 use Rattle.cv_value.specs.declared.typed.Typed.TheVariants.{One, Spaces, Commas}
 use Rattle.cv_value.specs.Items.{item}
 use Rattle.cv_value.specs.Matching.{each, listed, as_many, component, components, of_syntax, matching}
-use Rattle.cv_value_laws.specs.Values.{OfItems}
+use Rattle.cv_value.specs.Kept.{OfItems}
 use Rattle.cv_value_laws.proofs.Passing.{ByTokens, parts_pass, filled_pass, trims_pass}
 
 -- it holds of the value, where there is a fit

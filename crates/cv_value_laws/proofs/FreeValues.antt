@@ -23,7 +23,7 @@ use Rattle.cv_value.specs.Text.{item_text, separator, further_text, list_text, t
 use Rattle.cv_calc_laws.specs.Fonts.{is_other_unit, holds_no_font_unit}
 use Rattle.cv_calc_laws.specs.Units.{token_passes}
 use Rattle.cv_calc_laws.proofs.Free.{texts_are_free}
-use Rattle.cv_value_laws.specs.Values.{IsCanonical, OfItems}
+use Rattle.cv_value.specs.Kept.{IsCanonical, OfItems}
 use Rattle.cv_value_laws.proofs.CanonicalItems.{item_canonical}
 use Rattle.cv_value_laws.proofs.Fits.{of_fit, AnyToken, AnyList, if_matching, each_syntax}
 use Rattle.cv_value_laws.proofs.Passing.{by_test, by_any, joined_pass}

@@ -15,7 +15,6 @@ pub mod CanonicalItems
 pub mod TakenValues
 pub mod FreeValues
 pub mod NoKeywords
-pub mod Syntaxes
 pub mod CleanLists
 pub mod WellFormed
 pub mod NotNegative

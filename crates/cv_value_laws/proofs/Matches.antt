@@ -16,7 +16,8 @@ use Rattle.cv_value.specs.Items.{mixed_item, item}
 use Rattle.cv_calc_laws.specs.Fonts.{is_other_unit, holds_no_font_unit, DifferInFonts}
 use Rattle.cv_calc_laws.specs.Units.{token_passes}
 use Rattle.cv_calc_laws.proofs.Lists.{and_both, false_true}
-use Rattle.cv_value_laws.specs.Contexts.{MatchesAlike, is_no_length, has_no_length, MatchesIgnoreContexts}
+use Rattle.cv_syntax.specs.Told.{is_no_length, has_no_length}
+use Rattle.cv_value_laws.specs.Contexts.{MatchesAlike, MatchesIgnoreContexts}
 use Rattle.cv_value_laws.proofs.ByItems.{ItemsAgree, AllFine, same_many, same_matching}
 use Rattle.cv_value_laws.proofs.Colors.{color_reads_alike, color_ignores_context}
 use Rattle.cv_value_laws.proofs.Fits.{AnyToken, AnyList}

@@ -37,7 +37,9 @@ use Rattle.cv_calc_laws.specs.Fonts.{is_no_ident}
 use Rattle.cv_calc_laws.proofs.Free.{texts_are_free}
 use Rattle.cv_calc_laws.proofs.Lists.{and_both, false_true}
 use Rattle.cv_value_laws.specs.Entries.{IsComponentValue, preserved, block}
-use Rattle.cv_value_laws.specs.Values.{is_keyword, is_no_keyword, has_no_keyword, ValuesAreFree, NoKeyword, OfItems, ItemsAreFree}
+use Rattle.cv_syntax.specs.Told.{is_no_keyword, has_no_keyword}
+use Rattle.cv_value.specs.Kept.{NoKeyword, OfItems}
+use Rattle.cv_value_laws.specs.Values.{is_keyword, ValuesAreFree, ItemsAreFree}
 use Rattle.cv_value_laws.proofs.Fits.{AnyToken, AnyList, IfFit, OfComponents, OfSyntax, of_fit, if_made, if_either, if_matching}
 use Rattle.cv_value_laws.proofs.FreeValues.{typed_free, values_canonical}
 use Rattle.cv_value_laws.proofs.ItemEntries.{item_entry}

@@ -49,8 +49,9 @@ use Rattle.cv_value.specs.declared.typed.Typed.TheVariants.{One, Spaces, Commas}
 use Rattle.cv_value.specs.Items.{mixed_as, mixed_item, is_end, url_inside, url, string, is_reserved, custom_ident, literal, item}
 use Rattle.cv_value.specs.Matching.{matching}
 use Rattle.cv_value.specs.Text.{item_text, separator, further_text, list_text, typed_text}
-use Rattle.cv_value_laws.specs.Texts.{HasSpeltNames, TextsAreSpelt}
-use Rattle.cv_value_laws.specs.Values.{OfItems}
+use Rattle.cv_value.specs.Kept.{HasSpeltNames}
+use Rattle.cv_value_laws.specs.Texts.{TextsAreSpelt}
+use Rattle.cv_value.specs.Kept.{OfItems}
 use Rattle.cv_value_laws.proofs.CleanLists.{item_clean, typed_clean}
 use Rattle.cv_value_laws.proofs.Fits.{IfFit, of_fit, if_made, if_either, if_matching, each_syntax}
 use Rattle.cv_value_laws.proofs.Passing.{ByTokens, joined_pass, front_pass}

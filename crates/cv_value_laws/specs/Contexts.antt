@@ -1,17 +1,15 @@
 -- What of matching doesn't depend on a context (this project's own; which units are relative to a font: CSS Values and Units 4,
 -- "Font-relative Lengths").
-use Rattle.std.specs.Prelude.{◌≡◌, Bool, true, false, List}
-use Rattle.std.specs.List.{list_all}
+use Rattle.std.specs.Prelude.{◌≡◌, Bool, true, List}
 use Rattle.cv_spec_text.specs.declared.token.Token.{Token}
 use Rattle.cv_calc.specs.declared.context.Context.{Context}
 use Rattle.cv_numeric.specs.declared.matched.Matched.{Matched}
 use Rattle.cv_numeric.specs.declared.quantity.Range.{Range}
 use Rattle.cv_numeric.specs.Numeric.{number, percentage, angle, time, resolution, length, length_percentage, integer}
 use Rattle.cv_syntax.specs.declared.syntax.Kind.{Kind}
-use Rattle.cv_syntax.specs.declared.syntax.Kind.TheVariants.{Length, LengthPercentage}
 use Rattle.cv_syntax.specs.declared.syntax.Component.{Component}
 use Rattle.cv_syntax.specs.declared.syntax.Syntax.{Syntax}
-use Rattle.cv_syntax.specs.declared.syntax.Syntax.TheVariants.{Any, Of}
+use Rattle.cv_syntax.specs.Told.{is_no_length, has_no_length}
 use Rattle.cv_value.specs.Items.{item}
 use Rattle.cv_value.specs.Matching.{component, matching}
 use Rattle.cv_calc_laws.specs.Fonts.{holds_no_font_unit, DifferInFonts}
@@ -50,16 +48,6 @@ pub record NumbersIgnoreContexts : Type 0 where
   pub time_is : IgnoresContext time
   pub resolution_is : IgnoresContext resolution
   pub integer_is : IgnoresContext integer
-
--- no item of the kind is a length, and no component of the syntax has lengths
-abbrev pub is_no_length : Kind → Bool
-is_no_length Length = false
-is_no_length LengthPercentage = false
-is_no_length k = true
-
-abbrev pub has_no_length : Syntax → Bool
-has_no_length Any = true
-has_no_length (Of cs) = list_all (λ (c : Component). is_no_length c.kind) cs
 
 pub record MatchesIgnoreContexts : Type 0 where
   pub item_is : (k : Kind) → is_no_length k ≡ true → IgnoresContext (item k)

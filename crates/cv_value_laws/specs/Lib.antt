@@ -5,3 +5,4 @@ pub mod Values
 pub mod Texts
 pub mod Functions
 pub mod Sizes
+pub mod Keeping

@@ -1,7 +1,6 @@
 -- Texts of matched values are read again as they were written (CSS Syntax 3, "Serialization"; CSSOM, "Serializing CSS Values").
 use Rattle.std.specs.Prelude.{◌≡◌, List, All}
 use Rattle.cv_spec_text.specs.declared.token.Token.{Token}
-use Rattle.cv_spec_text.specs.declared.token.Token.TheVariants as token
 use Rattle.cv_spec_text.specs.Printing.{bytes}
 use Rattle.cv_spec_text.specs.Splits.{IsSpelt}
 use Rattle.cv_spec_text.specs.Tokens.{tokens}
@@ -10,22 +9,14 @@ use Rattle.cv_calc.specs.declared.context.Context.{Context}
 use Rattle.cv_numeric.specs.declared.matched.Matched.TheVariants.{Fit}
 use Rattle.cv_syntax.specs.declared.syntax.Syntax.{Syntax}
 use Rattle.cv_value.specs.declared.typed.Item.{Item}
-use Rattle.cv_value.specs.declared.typed.Item.TheVariants.{Url, Str, Ident}
 use Rattle.cv_value.specs.declared.typed.Typed.{Typed}
+use Rattle.cv_value.specs.Kept.{OfItems, HasSpeltNames}
 use Rattle.cv_value.specs.Matching.{matching}
 use Rattle.cv_value.specs.Text.{item_text, typed_text}
-use Rattle.cv_value_laws.specs.Values.{OfItems}
 
 pub record TextsAreClean : Type 0 where
   pub item : (i : Item) → IsClean (item_text i)
   pub typed : (v : Typed) → IsClean (typed_text v)
-
--- the strings and idents of the item are those of texts
-abbrev pub HasSpeltNames : Item → Type 0
-HasSpeltNames (Url text) = IsSpelt (token.Str text)
-HasSpeltNames (Str text) = IsSpelt (token.Str text)
-HasSpeltNames (Ident name) = IsSpelt (token.Ident name)
-HasSpeltNames i = Unit {0}
 
 -- where the tokens of a list are those of texts, so are the tokens of its value's text, which is read again as it was printed; and so it
 -- is of each value whose strings and idents are those of texts

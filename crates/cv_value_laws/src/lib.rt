@@ -13,4 +13,4 @@ pub use contexts::{
 pub use lists::{entries_are_split, texts_are_split};
 pub use sizes::sizes_are_numbers;
 pub use texts::{texts_are_clean, texts_are_spelt, values_are_taken};
-pub use values::{items_are_free, syntaxes_have_no_keyword, values_are_free};
+pub use values::{items_are_free, values_are_free, values_may_be_kept};

@@ -1,6 +1,9 @@
 //! What texts of matched values don't hold.
 
-ghost use Rattle.cv_value_laws.specs.Values.{ValuesAreFree, ItemsAreFree, SyntaxesHaveNoKeyword};
+ghost use Rattle.cv_value_laws.specs.Keeping.{ValuesMayBeKept};
+ghost use Rattle.cv_value_laws.specs.Values.{ValuesAreFree, ItemsAreFree};
+
+use crate::texts::texts_are_spelt;
 
 /// The text of a value that matches a syntax holds no font unit, `rem` included, since its lengths are absolute. Where no literal of the
 /// syntax is a CSS-wide keyword, it isn't such a keyword alone (CSS Values and Units 4, "CSS-wide keywords").
@@ -14,8 +17,12 @@ pub fn items_are_free()
     ensures { ItemsAreFree }
 {}
 
-/// No literal of a syntax that a syntax string says is a CSS-wide keyword: `auto | inherit` says none (Properties and Values API 1,
-/// "Syntax Strings").
-pub fn syntaxes_have_no_keyword()
-    ensures { SyntaxesHaveNoKeyword }
-{}
+/// What may be kept of a typed value is said by its items alone, with no syntax named: calculations in canonical units, no ident that is a
+/// CSS-wide keyword, and strings and idents of texts. A match of a list of tokens of texts is such a value, where no literal of the syntax
+/// is a CSS-wide keyword; and the text of such a value holds no font unit, is no CSS-wide keyword, and is read again as it was printed.
+pub fn values_may_be_kept()
+    ensures { ValuesMayBeKept }
+{
+    items_are_free();
+    texts_are_spelt();
+}

@@ -1,5 +1,5 @@
 -- No literal of a syntax string is a CSS-wide keyword.
-use Rattle.std.specs.Prelude.{◌≡◌, ℕ, ◌+◌, Bool, true, false, not, ◌==◌, ◌||◌, nat_lt, List, [], ◌∷◌, length, take, drop, codes, bytes_eq, Result, Ok, Err, Option, Some, None, if◌then◌else◌}
+use Rattle.std.specs.Prelude.{◌≡◌, ℕ, ◌+◌, Bool, true, false, not, ◌==◌, ◌||◌, ◌&&◌, nat_lt, List, [], ◌∷◌, length, take, drop, codes, bytes_eq, Result, Ok, Err, Option, Some, None, if◌then◌else◌}
 use Rattle.std.specs.List.{list_all}
 use Rattle.std.proofs.Common.{refl, ap, subst}
 use Rattle.cv_spec_text.specs.Characters.{plus_sign, number_sign, less_than_sign}
@@ -15,8 +15,7 @@ use Rattle.cv_syntax.specs.declared.syntax.Syntax.{Syntax}
 use Rattle.cv_syntax.specs.declared.syntax.Syntax.TheVariants.{Any}
 use Rattle.cv_syntax.specs.declared.syntax.SyntaxErr.{SyntaxErr}
 use Rattle.cv_syntax.specs.declared.syntax.SyntaxErr.TheVariants.{Empty, Unsupported, BadName, BadChar}
-use Rattle.cv_calc_laws.proofs.Lists.{both_are}
-use Rattle.cv_value_laws.specs.Values.{is_no_keyword, has_no_keyword, SyntaxesHaveNoKeyword}
+use Rattle.cv_syntax.specs.Told.{is_no_keyword, has_no_keyword, SyntaxesHaveNoKeyword}
 
 -- ---- one component
 
@@ -119,6 +118,10 @@ unfolding component_at
 component_fine place text = begun_fine (place + blank_length text) (drop (blank_length text) text)
 
 -- ---- all components
+
+both_are : (a b : Bool) → a ≡ true → b ≡ true → (a && b) ≡ true
+both_are true b h k = k
+both_are false b h k = h
 
 abbrev AreFine : Result (List Component) SyntaxErr → Type 0
 AreFine (Err e) = Unit {0}

@@ -1,0 +1,6 @@
+pub mod Joined
+pub mod Loops
+pub mod Powers
+pub mod Types
+pub mod UnitFactors
+pub mod UnitMaps

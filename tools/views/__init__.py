@@ -1,0 +1,1 @@
+"""A document and its report as one HTML file that stands alone."""
