@@ -1,9 +1,10 @@
 -- What a list is by the grammar of an ordinary property: what the first alternative says that it matches (CSS Values and Units 4, "Value
 -- Definition Syntax"). A list that is nested deeper than 128 matches none, and a match that is out of range ends the search, which are
 -- this project's own.
-use Rattle.std.specs.Prelude.{ℕ, ℤ, pos, nat_lt, int_lt, ◌||◌, List, [], ◌∷◌, map, if◌then◌else◌}
+use Rattle.std.specs.Prelude.{ℕ, encode_utf8_all, ℤ, Bool, true, false, pos, nat_lt, int_lt, ◌||◌, List, [], ◌∷◌, map, if◌then◌else◌}
 use Rattle.cv_spec_ratio.specs.Ratio.{Ratio}
 use Rattle.cv_frac.specs.Bounded.{in_bounds}
+use Rattle.cv_spec_text.specs.Characters.{hyphen, begins_with}
 use Rattle.cv_spec_text.specs.Keywords.{is_word}
 use Rattle.cv_spec_text.specs.declared.token.Token.{Token}
 use Rattle.cv_spec_text.specs.declared.token.Token.TheVariants as token
@@ -14,7 +15,7 @@ use Rattle.cv_calc.specs.declared.context.Context.{Context}
 use Rattle.cv_numeric.specs.declared.matched.Matched.{Matched}
 use Rattle.cv_numeric.specs.declared.matched.Matched.TheVariants.{No, Out, Fit}
 use Rattle.cv_numeric.specs.Matched.{mapped, first_of}
-use Rattle.cv_numeric.specs.Calculations.{is_null, is_negative}
+use Rattle.cv_numeric.specs.Calculations.{is_null}
 use Rattle.cv_numeric.specs.Numeric as numeric
 use Rattle.cv_numeric.specs.Numeric.{with_basis}
 use Rattle.cv_colorread.specs.Channels.{hundredths}
@@ -46,10 +47,14 @@ counted_portion (Fit v) = if in_bounds (hundredths 1 v) then Fit (item_of.Percen
 abbrev pub at_least_one : ℤ → ℤ
 at_least_one n = if int_lt n (pos 1) then pos 1 else n
 
--- a whole number of at least 1: a smaller number is no match, and a math function of one is 1 (CSS Values and Units 4, "Range Restrictions
--- and Range Definition Notation")
+-- a whole number is below 1 where it has a minus or is 0
+abbrev pub is_below_one : List ℕ → Bool
+is_below_one n = begins_with hyphen (encode_utf8_all n) || is_null n
+
+-- a whole number of at least 1: a smaller number is no match, and a smaller math function is 1 (CSS Values and Units 4, "Range
+-- Restrictions and Range Definition Notation")
 abbrev pub positive_integer_of : Context → List Token → Matched ℤ
-positive_integer_of x (token.Number n ∷ []) = if is_negative n || is_null n then No else numeric.whole_number n
+positive_integer_of x (token.Number n ∷ []) = if is_below_one n then No else numeric.whole_number n
 positive_integer_of x ts = mapped at_least_one (numeric.integer x ts)
 
 -- what a list is by one alternative
@@ -78,3 +83,9 @@ unfoldable pub matching_property : Property → Context → List Token → Match
 matching_property p x ts =
     if nat_lt 128 (depth ts) then No
     else mapped One (by_grammar (row p).grammar (with_basis (basis_of (row p).percentages x) x) ts)
+
+-- it is a match, in range or not
+abbrev pub is_match : {A : Type 0} → Matched A → Bool
+is_match No = false
+is_match Out = true
+is_match (Fit v) = true

@@ -6,3 +6,5 @@ pub mod TableLaws
 pub mod Numbers
 pub mod Grammar
 pub mod Computed
+pub mod Alike
+pub mod Portions

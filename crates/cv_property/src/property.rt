@@ -4,6 +4,7 @@ ghost use Rattle.std.specs.Prelude.{◌≡◌, IfOk, IsAscii, find, map, slice_g
 ghost use Rattle.cv_property.specs.Table.{inherits, initial_of, is_name_of, name_of, number_of, numbered, property_named, row};
 ghost use Rattle.cv_property.specs.Rows.{entry_of};
 
+use crate::grammar::{Alternative, Percentages};
 use crate::initial::initial_value;
 use crate::table::{ROWS, Row};
 use cv_spec_text::Name;
@@ -94,6 +95,20 @@ impl Property {
         ensures { IfOk result (λ v. v ≡ initial_of self) }
     {
         initial_value(alloc, self.row().initial)
+    }
+
+    // What the table says that a value is.
+    pub(crate) fn grammar(self) -> &'static [Alternative]
+        ensures { result.now ≡ (row self).grammar }
+    {
+        self.row().grammar
+    }
+
+    // What the table says that percentages are of.
+    pub(crate) fn percentages(self) -> Percentages
+        ensures { result ≡ (row self).percentages }
+    {
+        self.row().percentages
     }
 
     // Whether the text is the property's name, without ASCII case.

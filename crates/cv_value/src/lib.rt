@@ -15,6 +15,7 @@ pub use error::ValueErr;
 pub use fonts::has_font_unit;
 pub use laws::mismatch_is_alike;
 pub use matching::match_syntax;
+pub use single::mixed_item;
 pub use std::alloc::AllocError as OutOfMemory;
 pub use text::typed_tokens;
 pub use typed::{Item, Typed};

@@ -27,7 +27,7 @@ fn numeral_item(v: Frac, unit: Unit) -> Item
 }
 
 /// A length, a percentage or both together, as an item.
-fn mixed_item(c: Calc) -> Item
+pub fn mixed_item(c: Calc) -> Item
     ensures { result ≡ items.mixed_item c }
 {
     match c {

@@ -38,7 +38,7 @@ use Rattle.cv_value.specs.declared.typed.Item.TheVariants as item_of
 use Rattle.cv_value.specs.Items.{mixed_as, mixed_item, is_end, url_inside, url, string, is_reserved, custom_ident, literal as literal_item, item}
 use Rattle.cv_colorread.specs.Colors.{color}
 use Rattle.cv_value.specs.Kept.{IsCanonical}
-use Rattle.cv_value_laws.proofs.Fits.{IfFit, if_mapped, if_made, if_either}
+use Rattle.cv_value_laws.proofs.Fits.{IfFit, if_kept, if_mapped, if_made, if_either}
 
 abbrev IsPure : Calc → Type 0
 IsPure c = holds_canonical c ≡ true
@@ -124,6 +124,9 @@ literal_canonical : (word : List ℕ) (ts : List Token) → IfFit IsCanonical (l
 literal_canonical word [] = tt
 literal_canonical word (token.Ident name ∷ []) = if_either IsCanonical (bytes_eq name word) (Fit (item_of.Ident name)) No tt tt
 literal_canonical word (t ∷ ts) = tt
+
+pub size_canonical : (r : Range) (x : Context) (ts : List Token) → IfFit (λ c. IsCanonical (mixed_item c)) (numeric.length_percentage_in r x ts)
+size_canonical r x ts = if_kept IsPure (λ c. IsCanonical (mixed_item c)) (λ c h. mixed_canonical c (out-Calc c) (roll-out-Calc c) h) (numeric.length_percentage_in r x ts) (mixed_length_pure r x ts)
 
 pub item_canonical : (k : Kind) (x : Context) (ts : List Token) → IfFit IsCanonical (item k x ts)
 item_canonical kinds.Length x ts = if_made IsCanonical item_of.Length (λ v. tt) (numeric.length x ts)

@@ -36,6 +36,11 @@ if_each P h No = tt
 if_each P h Out = tt
 if_each P h (Fit a) = h a
 
+pub if_kept : {A : Type 0} (P Q : A → Type 0) → ((a : A) → P a → Q a) → (o : Matched A) → IfFit P o → IfFit Q o
+if_kept P Q h No k = tt
+if_kept P Q h Out k = tt
+if_kept P Q h (Fit a) k = h a k
+
 pub if_mapped : {A B : Type 0} (P : A → Type 0) (Q : B → Type 0) (f : A → B) → ((a : A) → P a → Q (f a)) → (o : Matched A) → IfFit P o → IfFit Q (mapped f o)
 if_mapped P Q f h No k = tt
 if_mapped P Q f h Out k = tt

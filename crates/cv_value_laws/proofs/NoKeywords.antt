@@ -38,9 +38,10 @@ use Rattle.cv_calc_laws.proofs.Free.{texts_are_free}
 use Rattle.cv_calc_laws.proofs.Lists.{and_both, false_true}
 use Rattle.cv_value_laws.specs.Entries.{IsComponentValue, preserved, block}
 use Rattle.cv_syntax.specs.Told.{is_no_keyword, has_no_keyword}
-use Rattle.cv_value.specs.Kept.{NoKeyword, OfItems}
+use Rattle.cv_value.specs.Kept.{IsCanonical, NoKeyword, OfItems}
 use Rattle.cv_value_laws.specs.Values.{is_keyword, ValuesAreFree, ItemsAreFree}
 use Rattle.cv_value_laws.proofs.Fits.{AnyToken, AnyList, IfFit, OfComponents, OfSyntax, of_fit, if_made, if_either, if_matching}
+use Rattle.cv_value_laws.proofs.CanonicalItems.{size_canonical}
 use Rattle.cv_value_laws.proofs.FreeValues.{typed_free, values_canonical}
 use Rattle.cv_value_laws.proofs.ItemEntries.{item_entry}
 use Rattle.cv_value_laws.proofs.Passing.{by_any}
@@ -178,6 +179,7 @@ pub items_are_free : ItemsAreFree
 items_are_free = record {
   are_canonical = values_canonical;
   are_no_keyword = values_no_keyword;
+  sizes_are_canonical = λ r x ts c e. of_fit (λ d. IsCanonical (mixed_item d)) (numeric.length_percentage_in r x ts) c (size_canonical r x ts) e;
   no_font_unit = typed_free;
   no_keyword = typed_no_keyword;
 }

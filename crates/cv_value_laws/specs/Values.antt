@@ -5,7 +5,11 @@ use Rattle.cv_spec_text.specs.Keywords.{is_css_wide_keyword}
 use Rattle.cv_spec_text.specs.declared.token.Token.{Token}
 use Rattle.cv_spec_text.specs.declared.token.Token.TheVariants.{Ident}
 use Rattle.cv_calc.specs.declared.context.Context.{Context}
+use Rattle.cv_calc.specs.declared.calc.Calc.{Calc}
 use Rattle.cv_numeric.specs.declared.matched.Matched.TheVariants.{Fit}
+use Rattle.cv_numeric.specs.declared.quantity.Range.{Range}
+use Rattle.cv_numeric.specs.Numeric.{length_percentage_in}
+use Rattle.cv_value.specs.Items.{mixed_item}
 use Rattle.cv_syntax.specs.declared.syntax.Syntax.{Syntax}
 use Rattle.cv_syntax.specs.Told.{has_no_keyword}
 use Rattle.cv_value.specs.declared.typed.Typed.{Typed}
@@ -30,5 +34,7 @@ pub record ValuesAreFree : Type 0 where
 pub record ItemsAreFree : Type 0 where
   pub are_canonical : (s : Syntax) (x : Context) (ts : List Token) (v : Typed) → matching s x ts ≡ Fit v → OfItems IsCanonical v
   pub are_no_keyword : (s : Syntax) → has_no_keyword s ≡ true → (x : Context) (ts : List Token) (v : Typed) → matching s x ts ≡ Fit v → OfItems NoKeyword v
+  -- so is what a length or percentage within a range is, with any basis of percentages
+  pub sizes_are_canonical : (r : Range) (x : Context) (ts : List Token) (c : Calc) → length_percentage_in r x ts ≡ Fit c → IsCanonical (mixed_item c)
   pub no_font_unit : (root : Bool) (v : Typed) → OfItems IsCanonical v → holds_no_font_unit root (typed_text v) ≡ true
   pub no_keyword : (v : Typed) → OfItems NoKeyword v → is_keyword (typed_text v) ≡ false

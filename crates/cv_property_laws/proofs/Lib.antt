@@ -1,0 +1,3 @@
+mod Values
+mod FontSizes
+mod KeptValues
