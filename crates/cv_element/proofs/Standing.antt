@@ -10,7 +10,7 @@ use Rattle.cv_valuation.specs.declared.key.Key.{Key}
 use Rattle.cv_valuation.specs.declared.key.Key.TheVariants.{Custom, Table}
 use Rattle.cv_valuation.specs.declared.outcome.Outcome.{Outcome}
 use Rattle.cv_valuation.specs.declared.outcome.Outcome.TheVariants.{Tokens, Value, Invalid}
-use Rattle.cv_valuation.specs.Kept.{IsKeptValue}
+use Rattle.cv_value.specs.Kept.{MayBeKept}
 use Rattle.cv_valuation.specs.Valuations.{Values, outcome_at, MayKeep}
 use Rattle.cv_props.specs.declared.entry.Entry.{Entry}
 use Rattle.cv_props.specs.Registered.{Registered, entry_of, IsEntry, IsInitial, AreEntries}
@@ -25,7 +25,7 @@ IsOfKindBy loose (Value value) = loose ≡ false
 IsOfKindBy loose Invalid = loose ≡ true
 
 -- the initial values of the table
-table_initial : (p : Property) → IsKeptValue (initial_of p)
+table_initial : (p : Property) → MayBeKept (initial_of p)
 table_initial p = ?
 
 -- what is registered of a name stands there

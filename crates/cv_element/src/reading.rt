@@ -12,7 +12,7 @@ ghost use Rattle.cv_property.specs.declared.property.Property.TheVariants.{FontS
 ghost use Rattle.cv_property.specs.Computed.{computed_of};
 ghost use Rattle.cv_property.specs.Grammar.{matching_property};
 ghost use Rattle.cv_valuation.specs.declared.key.Key.TheVariants.{Custom};
-ghost use Rattle.cv_valuation.specs.Kept.{IsKeptValue};
+ghost use Rattle.cv_value.specs.Kept.{MayBeKept};
 ghost use Rattle.cv_props.specs.Registered.{entry_of};
 ghost use Rattle.cv_element.specs.Judging.{IsBuilt};
 
@@ -78,7 +78,7 @@ fn read_custom(
     requires firm { is_loose registry.now (Custom name.now) ≡ false }
     requires spelt { All IsSpelt tokens.now }
     ensures read { IfOk result (λ m. m ≡ reads_by (entry_of registry.now name.now) x.now tokens.now) }
-    ensures kept { IfOk result (λ m. (v : Typed) → m ≡ Fit v → IsKeptValue v) }
+    ensures kept { IfOk result (λ m. (v : Typed) → m ≡ Fit v → MayBeKept v) }
 {
     items_are_free();
     texts_are_spelt();
@@ -104,7 +104,7 @@ fn read_table(
     requires spelt { All IsSpelt tokens.now }
     requires built { property ≡ FontSize }
     ensures read { IfOk result (λ m. m ≡ mapped (computed_of property (inherited_from (option_copied parent.entry) property)) (matching_property property x.now tokens.now)) }
-    ensures kept { IfOk result (λ m. (v : Typed) → m ≡ Fit v → IsKeptValue v) }
+    ensures kept { IfOk result (λ m. (v : Typed) → m ≡ Fit v → MayBeKept v) }
 {
     Ok(Matched::No)
 }
@@ -123,7 +123,7 @@ pub fn read(
     requires spelt { All IsSpelt tokens.now }
     requires built { IsBuilt key.now }
     ensures read { IfOk result (λ m. m ≡ reads_at registry.now (option_copied parent.entry) at.now key.now em tokens.now) }
-    ensures kept { IfOk result (λ m. (v : Typed) → m ≡ Fit v → IsKeptValue v) }
+    ensures kept { IfOk result (λ m. (v : Typed) → m ≡ Fit v → MayBeKept v) }
 {
     let x = context_of(at, em);
     match key {
