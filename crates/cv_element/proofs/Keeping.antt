@@ -1,12 +1,13 @@
 -- What is settled may stand under the registry, and no token of a substituted list begins a `var()`.
 use Rattle.std.proofs.Common.{◌≡◌, ℕ, Bool, true, false, cond, List, [], ◌∷◌, ◌++◌, Option, Some, None, is_some, Result, Ok, Err, ◌⊎◌, inl, inr, refl, sym, ◌∙◌, ap, subst}
-use Rattle.std.specs.Prelude.{All, codes}
+use Rattle.std.specs.Prelude.{All, codes, ◌||◌, IfOk, OnOk}
 use Rattle.cv_spec_text.specs.Keywords.{is_word, is_css_wide_keyword, is_custom}
 use Rattle.cv_spec_text.specs.Splits.{IsSpelt}
 use Rattle.cv_spec_text.specs.declared.token.Token.{Token}
 use Rattle.cv_spec_text.specs.declared.token.Token.TheVariants.{Ident}
 use Rattle.cv_component.specs.Parts.{trim}
 use Rattle.cv_value_laws.specs.Values.{is_keyword}
+use Rattle.cv_value.specs.Text.{typed_text}
 use Rattle.cv_value_laws.specs.Functions.{ValuesAreTaken}
 use Rattle.cv_spec_element.specs.Keywords.{Keyword, initial, inherit, unset, revert, revert_layer}
 use Rattle.cv_spec_element.specs.Pieces.{Pieces, finish, token, reference, reference_or, value_or, joined, sub}
@@ -23,6 +24,8 @@ use Rattle.cv_props.specs.Registered.{Registered}
 use Rattle.cv_spec_valuation.specs.Registered.{is_loose}
 use Rattle.cv_spec_valuation.specs.Computed.{MayStand, StandUnder}
 use Rattle.cv_spec_valuation.specs.Element.{keyword, keyword_named}
+use Rattle.cv_valuation.specs.declared.computed.Cause.{Cause}
+use Rattle.cv_element.specs.Answers.{IsAnswer}
 use Rattle.cv_element.specs.Keywords.{alone}
 use Rattle.cv_element.specs.Settling.{value_at}
 use Rattle.cv_element.proofs.SameKeys.{same_or_not}
@@ -31,7 +34,7 @@ use Rattle.cv_element.proofs.Trimming.{trim_twice, spelt-trim, has_var-one, has_
 
 -- ---- keywords
 
-named_some : (a b c d e : Bool) → cond a true (cond b true (cond c true (cond d true e))) ≡ is_some (cond a (Some initial) (cond b (Some inherit) (cond c (Some unset) (cond d (Some revert) (cond e (Some revert_layer) None)))))
+named_some : (a b c d e : Bool) → (a || b || c || d || e) ≡ is_some (cond a (Some initial) (cond b (Some inherit) (cond c (Some unset) (cond d (Some revert) (cond e (Some revert_layer) None)))))
 named_some true b c d e = refl
 named_some false true c d e = refl
 named_some false false true d e = refl
@@ -65,15 +68,15 @@ custom_of : (registered : Registered) (key : Key) → is_key key ≡ true → is
 custom_of registered (Custom name) is loose = (name, refl, is)
 custom_of registered (Table p) is loose = cc
 
-pub tokens_stand : (registered : Registered) (key : Key) (list : List Token) → is_key key ≡ true → is_loose registered key ≡ true → All IsSpelt list → has_var list ≡ false → alone (trim list) ≡ None → MayStand registered key (Tokens (trim list))
-tokens_stand registered key list is loose spelt plain none =
+pub tokens_stand : (registered : Registered) (key : Key) (list trimmed : List Token) → trimmed ≡ trim list → is_key key ≡ true → is_loose registered key ≡ true → All IsSpelt trimmed → has_var list ≡ false → alone trimmed ≡ None → MayStand registered key (Tokens trimmed)
+tokens_stand registered key list trimmed made is loose spelt plain none =
     let custom = custom_of registered key is loose in
     (
-      subst (λ k. MayKeep k (Tokens (trim list))) (sym custom.1) (record {
+      subst (λ k. MayKeep k (Tokens trimmed)) (sym custom.1) (record {
         custom = custom.2;
-        spelt = spelt-trim list spelt;
-        without_var = has_var-trim list plain;
-        no_keyword = ap is_keyword (trim_twice list) ∙ is_keyword-alone (trim list) ∙ ap is_some none;
+        spelt = spelt;
+        without_var = subst (λ l. has_var l ≡ false) (sym made) (has_var-trim list plain);
+        no_keyword = ap (λ l. is_keyword (trim l)) made ∙ ap is_keyword (trim_twice list ∙ sym made) ∙ is_keyword-alone trimmed ∙ ap is_some none;
       }),
       loose,
     )
@@ -90,7 +93,7 @@ stand-with by_key found registered values stand key outcome may q =
 
 plain_outcome : ValuesAreTaken → (key : Key) (outcome : Outcome) → MayKeep key outcome → (list : List Token) → outcome_tokens outcome ≡ Some list → has_var list ≡ false
 plain_outcome taken key (Tokens first) may list is = let same : first ≡ list = cc in subst (λ x. has_var x ≡ false) same may.without_var
-plain_outcome taken key (Value value) may list is = let same = is in let both : Some _ ≡ Some list = is in subst (λ x. has_var x ≡ false) (let e : _ ≡ list = cc in e) (taken.no_var value)
+plain_outcome taken key (Value value) may list is = let same : typed_text value ≡ list = cc in subst (λ x. has_var x ≡ false) same (taken.no_var value)
 plain_outcome taken key Invalid may list is = let clash : None ≡ Some list = is in absurd cc
 
 -- no token of a substituted list is a `var(`
@@ -121,3 +124,12 @@ module _ (values : List ℕ → Option (List Token)) (plain : (name : List ℕ) 
 pub answer_plain : ValuesAreTaken → (registered : Registered) (values : Values) → StandUnder registered values → (pieces : Pieces (List ℕ) Token) → HoldNoVar pieces → (list : List Token) → sub (value_at values) pieces ≡ Ok list → has_var list ≡ false
 answer_plain taken registered values stand pieces none list is =
     subst IsPlain is (sub-plain (value_at values) (λ name first value. plain_outcome taken (Custom name) (outcome_at values (Custom name)) (stand (Custom name)).0 first value) pieces none)
+
+-- what holds of the values that an answer promises holds of the answer's
+pub ok_values : {A E X : Type 0} (r : Result A E) (values made : X) (P : X → Type 0) → OnOk r (values ≡ made) → P made → OnOk r (P values)
+ok_values (Ok a) values made P is holds = subst P (sym is) holds
+ok_values (Err error) values made P is holds = tt
+
+pub answers_plain : ValuesAreTaken → (registered : Registered) (values : Values) → StandUnder registered values → (pieces : Pieces (List ℕ) Token) → HoldNoVar pieces → (counted cyclic : Bool) (limit : ℕ) (answer : Result (List Token) Cause) → IsAnswer counted cyclic (sub (value_at values) pieces) limit answer → IfOk answer (λ list. has_var list ≡ false)
+answers_plain taken registered values stand pieces none counted cyclic limit (Ok list) is = answer_plain taken registered values stand pieces none list is.1
+answers_plain taken registered values stand pieces none counted cyclic limit (Err cause) is = tt

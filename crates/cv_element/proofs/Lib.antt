@@ -2,7 +2,16 @@ pub mod SameKeys
 pub mod TokenKinds
 pub mod Trimming
 pub mod Keying
+pub mod Loading
 pub mod Standing
 pub mod Keeping
 pub mod Stepping
-pub mod Loading
+pub mod Referring
+pub mod Judged
+pub mod Placing
+pub mod Ending
+pub mod Lawful
+pub mod Computing
+pub mod Sorting
+pub mod Reported
+pub mod Whole

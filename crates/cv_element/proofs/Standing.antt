@@ -1,10 +1,10 @@
 -- Initial values, and what keywords give, may stand under the registry.
-use Rattle.std.proofs.Common.{◌≡◌, Bool, true, false, ℕ, List, Option, Some, None, ◌⊎◌, inl, inr, refl, sym, ◌∙◌, ap, subst}
+use Rattle.std.specs.Prelude.{IfOk}
+use Rattle.std.proofs.Common.{Result, Ok, Err, ◌≡◌, Bool, true, false, cond, ℕ, List, Option, Some, None, ◌⊎◌, inl, inr, refl, sym, ◌∙◌, ap, subst}
 use Rattle.cv_spec_text.specs.Keywords.{is_custom}
 use Rattle.cv_syntax.specs.declared.syntax.Syntax.{Syntax}
 use Rattle.cv_syntax.specs.declared.syntax.Syntax.TheVariants.{Any, Of}
-use Rattle.cv_property.specs.declared.property.Property.{Property}
-use Rattle.cv_property.specs.Table.{initial_of}
+use Rattle.cv_property_laws.specs.Keeping.{PropertiesMayBeKept}
 use Rattle.cv_spec_element.specs.Keywords.{Keyword, initial, inherit, unset, revert, revert_layer, inherited, defaulted, by_keyword}
 use Rattle.cv_valuation.specs.declared.key.Key.{Key}
 use Rattle.cv_valuation.specs.declared.key.Key.TheVariants.{Custom, Table}
@@ -16,17 +16,13 @@ use Rattle.cv_props.specs.declared.entry.Entry.{Entry}
 use Rattle.cv_props.specs.Registered.{Registered, entry_of, IsEntry, IsInitial, AreEntries}
 use Rattle.cv_spec_valuation.specs.Registered.{is_any, is_loose, inherits, initial_at, is_loose_by, initial_by}
 use Rattle.cv_spec_valuation.specs.Computed.{IsOfKind, MayStand, StandUnder, ParentStandsUnder}
-use Rattle.cv_element.specs.Values.{held_by}
+use Rattle.cv_element.specs.Values.{held_by, start_at, invalid_at}
 
 -- what a property has where it is loose, and where it isn't
 abbrev IsOfKindBy : Bool → Outcome → Type 0
 IsOfKindBy loose (Tokens list) = loose ≡ true
 IsOfKindBy loose (Value value) = loose ≡ false
 IsOfKindBy loose Invalid = loose ≡ true
-
--- the initial values of the table
-table_initial : (p : Property) → MayBeKept (initial_of p)
-table_initial p = ?
 
 -- what is registered of a name stands there
 entry_stands : (name : List ℕ) (entry : Option Entry) (s : Syntax) (o : Outcome) → is_custom name ≡ true → is_loose_by entry ≡ is_any s → IsInitial s o → MayKeep (Custom name) o × ((loose : Bool) → loose ≡ is_loose_by entry → IsOfKindBy loose o)
@@ -49,9 +45,9 @@ custom_stands registered name (Some entry) is entries =
     let may = entry_stands name (Some entry) entry.syntax entry.initial (entries entry refl).custom refl (entries entry refl).initial in
     (may.0, of_kind registered (Custom name) entry.initial (may.1 (is_loose registered (Custom name)) (ap is_loose_by is)))
 
-pub initial_stands : (registered : Registered) → AreEntries registered → (key : Key) → MayStand registered key (initial_at registered key)
-initial_stands registered entries (Table p) = ((refl, table_initial p), refl)
-initial_stands registered entries (Custom name) = custom_stands registered name (entry_of registered name) refl (λ entry is. entries name entry is)
+pub initial_stands : PropertiesMayBeKept → (registered : Registered) → AreEntries registered → (key : Key) → MayStand registered key (initial_at registered key)
+initial_stands laws registered entries (Table p) = ((refl, laws.initial p), refl)
+initial_stands laws registered entries (Custom name) = custom_stands registered name (entry_of registered name) refl (λ entry is. entries name entry is)
 
 -- the value is the initial one or the parent's
 keyword_cases : {O : Type 0} (P : O → Type 0) (first : O) (parent : Option O) (inherits : Bool) (w : Keyword) → P first → ((value : O) → parent ≡ Some value → P value) → P (by_keyword first parent inherits w)
@@ -78,6 +74,19 @@ parent_stands registered (Some values) stands key value is =
     let same : outcome_at values key ≡ value = let both : Some (outcome_at values key) ≡ Some value = is in cc in
     subst (λ o. MayStand registered key o) same (stands key)
 
-pub keyword_stands : (registered : Registered) → AreEntries registered → (parent : Option Values) → ParentStandsUnder registered parent → (key : Key) (w : Keyword) → MayStand registered key (by_keyword (initial_at registered key) (held_by parent key) (inherits registered key) w)
-keyword_stands registered entries parent stands key w =
-    keyword_cases (λ o. MayStand registered key o) (initial_at registered key) (held_by parent key) (inherits registered key) w (initial_stands registered entries key) (parent_stands registered parent stands key)
+pub keyword_stands : PropertiesMayBeKept → (registered : Registered) → AreEntries registered → (parent : Option Values) → ParentStandsUnder registered parent → (key : Key) (w : Keyword) → MayStand registered key (by_keyword (initial_at registered key) (held_by parent key) (inherits registered key) w)
+keyword_stands laws registered entries parent stands key w =
+    keyword_cases (λ o. MayStand registered key o) (initial_at registered key) (held_by parent key) (inherits registered key) w (initial_stands laws registered entries key) (parent_stands registered parent stands key)
+
+-- what a property has where it is invalid
+pub invalid_stands : PropertiesMayBeKept → (registered : Registered) → AreEntries registered → (parent : Option Values) → ParentStandsUnder registered parent → (key : Key) → MayStand registered key (invalid_at registered parent key)
+invalid_stands laws registered entries parent stands key = by (is_loose registered key) refl
+  where
+    by : (b : Bool) → is_loose registered key ≡ b → MayStand registered key (cond b Invalid (start_at registered parent key))
+    by true loose = (tt, loose)
+    by false firm = keyword_stands laws registered entries parent stands key unset
+
+-- an answer that is known stands where what it is does
+pub ok_stands : (registered : Registered) (key : Key) {E : Type 0} (r : Result Outcome E) (o : Outcome) → IfOk r (λ a. a ≡ o) → MayStand registered key o → IfOk r (MayStand registered key)
+ok_stands registered key (Ok a) o is stands = subst (MayStand registered key) (sym is) stands
+ok_stands registered key (Err error) o is stands = tt

@@ -3,3 +3,7 @@ pub mod Values
 pub mod Judging
 pub mod Answers
 pub mod Settling
+pub mod Places
+pub mod Counting
+pub mod Holding
+pub mod FaultNames

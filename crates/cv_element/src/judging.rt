@@ -7,7 +7,7 @@ ghost use Rattle.cv_spec_valuation.specs.Registered.{is_loose};
 ghost use Rattle.cv_spec_valuation.specs.Contexts.{reads_at};
 ghost use Rattle.cv_spec_valuation.specs.Computed.{ParentStandsUnder};
 ghost use Rattle.cv_valuation.specs.Keys.{is_key};
-ghost use Rattle.cv_element.specs.Judging.{IsBuilt, em_for, verdict_of, verdict_on, verdict_after, MayCome};
+ghost use Rattle.cv_element.specs.Judging.{em_for, verdict_of, verdict_on, verdict_after, MayCome};
 
 use crate::keywords::alone;
 use crate::reading::{read, size_above, size_of};
@@ -52,7 +52,6 @@ fn judge_typed(
 ) -> Result<Verdict, OutOfMemory>
     requires key { is_key key.now ≡ true }
     requires firm { is_loose registry.now key.now ≡ false }
-    requires built { IsBuilt key.now }
     ensures verdict { IfOk result (λ verdict. verdict ≡ verdict_of (reads_at registry.now (option_copied parent.entry) at.now key.now (em_for (option_copied parent.entry) values.now key.now) trimmed.now)) }
     ensures kept { IfOk result (MayCome registry.now key.now) }
 {
@@ -76,12 +75,10 @@ pub fn judge(
 ) -> Result<Verdict, OutOfMemory>
     requires parent { ParentStandsUnder registry.now (option_copied parent) }
     requires key { is_key key.now ≡ true }
-    requires built { IsBuilt key.now }
     requires plain { has_var list ≡ false }
     ensures verdict { IfOk result (λ verdict. verdict ≡ verdict_on registry.now (option_copied parent.entry) at.now values.now key.now list) }
     ensures kept { IfOk result (MayCome registry.now key.now) }
 {
-    registry.len();
     let trimmed = trim_run(list);
     if let Some(keyword) = alone(trimmed.tokens()) {
         return Ok(Verdict::Used(keyword_value(

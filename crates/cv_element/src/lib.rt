@@ -2,13 +2,21 @@
 #![tactic(auto)]
 
 mod answers;
+mod faults;
+mod graph;
+mod held;
 mod judging;
 mod keywords;
+mod laws;
+mod planning;
 mod reading;
 mod refusal;
 mod settling;
+mod starting;
+mod valuation;
 mod values;
 
 pub use cv_spec_valuation::Place;
+pub use laws::elements_are_lawful;
 pub use refusal::ElemErr;
-pub use settling::settle;
+pub use valuation::element;

@@ -1,6 +1,2 @@
 mod Entries
 mod Keeping
-mod Numbered
-mod Items
-mod Split
-mod Few

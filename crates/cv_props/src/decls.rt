@@ -1,7 +1,7 @@
 //! The declarations of an element.
 
 ghost use Rattle.std.specs.Prelude.{◌≡◌, ◌<◌, [], length, slice_get, is_some, Some, All, IfOk, OnOk, OnErr};
-ghost use Rattle.std.specs.List.{IsDistinct};
+ghost use Rattle.std.specs.List.{IsDistinct, position};
 ghost use Rattle.std.specs.Option.{option_copied};
 ghost use Rattle.std.specs.Map.{keys_of, remove_entry};
 ghost use Rattle.indexmap.specs.IndexMap.{insert_entry};
@@ -85,6 +85,13 @@ impl Decls {
         ensures kept { MayDeclare result.0.now result.1.now }
     {
         self.declarations.get_index(place).unwrap()
+    }
+
+    /// The place of the key, if it is declared.
+    pub fn index_of(&self, key: &Key) -> Option<usize>
+        ensures { result ≡ position (same_key key.now) (keys_of self.now) }
+    {
+        self.declarations.get_index_of(key)
     }
 
     /// Declares the key: in its place where it has one, else last.
