@@ -7,12 +7,23 @@ import sys
 
 # The modules that tools/page needs, by the package of Debian that has them.
 PACKAGES = {"python3-html5lib": "html5lib", "python3-cssselect2": "cssselect2", "python3-tinycss2": "tinycss2"}
+# What the tests need besides, by package: a file that the package brings.
+FOR_TESTS = {
+    "chromium": "/usr/bin/chromium", "libjs-bootstrap5": "/usr/share/javascript/bootstrap5/css/bootstrap.css",
+    "doxygen-awesome-css": "/usr/share/doxygen-awesome-css/doxygen-awesome.css",
+}
+SECONDS = 420  # for apt-get, where a network answers slowly or not at all
 DEBIANS = "/usr/bin/python3"
 
 
 def missing():
     """The packages whose modules this Python doesn't have."""
     return [package for package, module in PACKAGES.items() if importlib.util.find_spec(module) is None]
+
+
+def missing_for_tests():
+    """The packages that the tests need and that aren't here."""
+    return ([] if interpreter() else list(PACKAGES)) + [package for package, file in FOR_TESTS.items() if not os.path.exists(file)]
 
 
 def interpreter():
@@ -27,7 +38,7 @@ def interpreter():
 
 def install_line(packages):
     """The command that brings packages."""
-    return "apt-get install -y " + " ".join(packages)
+    return "apt-get install -y --no-install-recommends " + " ".join(packages)
 
 
 def with_packages(script):
@@ -46,6 +57,10 @@ def may_install():
 
 def install(packages):
     """Brings packages by apt-get; whether that went well."""
-    quiet = {"stdout": subprocess.DEVNULL, "stderr": subprocess.DEVNULL, "env": {**os.environ, "DEBIAN_FRONTEND": "noninteractive"}}
-    subprocess.run(["apt-get", "update", "-q"], **quiet)
-    return subprocess.run(install_line(packages).split(), **quiet).returncode == 0
+    quiet = {"stdout": subprocess.DEVNULL, "stderr": subprocess.DEVNULL, "stdin": subprocess.DEVNULL,
+             "env": {**os.environ, "DEBIAN_FRONTEND": "noninteractive"}, "timeout": SECONDS}
+    try:
+        subprocess.run(["apt-get", "update", "-q", "-o", "Acquire::Retries=0", "-o", "Acquire::http::Timeout=20"], **quiet)
+        return subprocess.run(install_line(packages).split(), **quiet).returncode == 0
+    except (OSError, subprocess.TimeoutExpired):
+        return False

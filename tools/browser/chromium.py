@@ -2,6 +2,7 @@
 import base64
 import json
 import os
+import pathlib
 import select
 import shutil
 import subprocess
@@ -96,12 +97,21 @@ class Browser:
     def open(self, path):
         """Opens a file and waits until it is loaded."""
         self.events.clear()
-        self.call("Page.navigate", url="file://" + os.path.abspath(path))
+        url = pathlib.Path(path).resolve().as_uri()
+        self.call("Page.navigate", url=url)
         ends = time.monotonic() + SECONDS
-        while self.run("document.readyState") != "complete" or "Page.loadEventFired" not in self.events:
+        while not self.is_loaded(url):
             if time.monotonic() > ends:
                 raise BrowserError(f"{path} isn't loaded within {SECONDS} seconds")
             time.sleep(0.02)
+
+    def is_loaded(self, url):
+        """Whether the page of a URL is there as a whole. While pages change no script runs."""
+        try:
+            state = self.run("location.href + ' ' + document.readyState")
+        except BrowserError:
+            return False
+        return state == f"{url} complete" and "Page.loadEventFired" in self.events
 
     def run(self, script):
         """The value of a script in the page."""

@@ -26,11 +26,16 @@ def items(style):
     found, place = [], ""
     for text in cut(style):
         comments = PLACE.findall(text[:len(text) - len(without_comments(text))])
-        place = comments[-1] if comments else place
+        place = after(place, comments[-1]) if comments else place
         body = without_comments(text)
         if body:
             found.append(item(body, place))
     return found
+
+
+def after(place, comment):
+    """The place that a comment gives behind another place: `:LINE` is a line of the same file."""
+    return place.rpartition(":")[0] + comment if re.fullmatch(r":\d+", comment) else comment
 
 
 def cut(style):

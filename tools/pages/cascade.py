@@ -22,11 +22,10 @@ class Applied:
     attached: bool  # by the element's own style attribute
     layer: Tuple
     file: str  # None where it is a style attribute
-    rule: int
 
-    def same_layer(self, other):
-        """Whether both are of one layer; a style attribute is one of its own."""
-        return (self.author, self.attached, self.layer) == (other.author, other.attached, other.layer)
+    def level(self):
+        """What sorts the layers of the author's normal declarations; a style attribute is one of its own."""
+        return (self.attached, self.layer)
 
 
 class Cascade:
@@ -78,7 +77,7 @@ class Cascade:
         for declared in attached:
             entries.append((declared, True, True, (), (0, 0, 0), -1, None))
         entries.sort(key=weight)
-        applied = [Applied(declared, author, own, layer, file, order) for declared, author, own, layer, _, order, file in entries]
+        applied = [Applied(declared, author, own, layer, file) for declared, author, own, layer, _, _, file in entries]
         return rolled_back(applied)
 
 
@@ -116,11 +115,18 @@ def rolled_back(applied):
     for name in names:
         winner = winner_of(applied, name)
         while winner is not None and winner.author and is_rollback(winner):
-            whole_origin = winner.declared.value.lower() == "revert"
-            applied = [one for one in applied if one.declared.name != name or not
-                       (one.author if whole_origin else one.same_layer(winner))]
+            applied = [one for one in applied if one.declared.name != name or stays_below(one, winner)]
             winner = winner_of(applied, name)
     return applied
+
+
+def stays_below(applied, winner):
+    """Whether a declaration stands below all that a rollback takes out: its origin or its layer, and what is between the
+    normal and the important declarations of that. What is above it can't be, for it wins.
+    """
+    if winner.declared.value.lower() == "revert" or not applied.author:
+        return not applied.author
+    return not applied.declared.important and applied.level() < winner.level()
 
 
 def is_rollback(applied):
@@ -130,18 +136,33 @@ def is_rollback(applied):
 
 
 def style_text(applied, with_places=True):
-    """The declarations as the text of a style; before what a rule of the author gives stands a comment with its file and line."""
-    parts, rule = [], None
+    """The declarations as the text of a style, behind comments with their places: `/* FILE:LINE */`, or `/* :LINE */` in the file before."""
+    parts, place = [], (None, None)
     for one in applied:
         declared = one.declared
         if declared.value is None:
             continue
-        if with_places and one.rule != rule and one.author:
-            parts.append(f"/* {one.file}:{declared.line} */" if one.file else "/* attribute */")
-        rule = one.rule
+        if with_places and place_of(one) != place:
+            parts.append(place_comment(place_of(one), place[0]))
+            place = place_of(one)
         important = " !important" if declared.important else ""
         parts.append(f"{serialize_identifier(declared.name)}: {declared.value}{important};")
     return " ".join(parts)
+
+
+def place_of(applied):
+    """Where a declaration comes from: a file and a line, or a word without one."""
+    if not applied.author:
+        return "browser", None
+    return (applied.file, applied.declared.line) if applied.file else ("attribute", None)
+
+
+def place_comment(place, file_before):
+    """The comment for a place."""
+    file, line = place
+    if line is None:
+        return f"/* {file} */"
+    return f"/* :{line} */" if file == file_before else f"/* {file}:{line} */"
 
 
 def untold(applied):

@@ -3,7 +3,7 @@ import argparse
 import re
 import sys
 
-from pages.page import read_page
+from pages.page import MOST_BYTES, read_page
 
 
 def main(arguments):
@@ -12,12 +12,16 @@ def main(arguments):
     width, height = (int(number) for number in words.viewport.split("x"))
     try:
         page = read_page(words.file, width, height, words.only_custom)
+        text = page.text().encode("utf-8", "replace")
+        if len(text) > MOST_BYTES:
+            page = read_page(words.file, width, height, words.only_custom, places=False)
+            text = page.text().encode("utf-8", "replace")
     except OSError as error:
         print(f"page: {words.file} can't be read: {error.strerror}", file=sys.stderr)
         return 3
     for line in page.left_out.lines():
         print(f"page: {line}", file=sys.stderr)
-    sys.stdout.buffer.write(page.text().encode("utf-8", "replace"))
+    sys.stdout.buffer.write(text)
     return 0
 
 

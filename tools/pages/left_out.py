@@ -29,4 +29,4 @@ class LeftOut:
         if self.dropped:
             names = ", ".join(f"{name} {count}" for name, count in self.dropped.most_common(SHOWN))
             more = ", .." if len(self.dropped) > SHOWN else ""
-            yield f"dropped: {self.dropped.total()} declarations of {len(self.dropped)} properties that the program doesn't know ({names}{more})"
+            yield f"dropped: {sum(self.dropped.values())} declarations of {len(self.dropped)} properties that the program doesn't know ({names}{more})"

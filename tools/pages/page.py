@@ -14,7 +14,6 @@ from pages.sheets import Sheets
 from pages.tree import read_elements
 
 MOST_BYTES = 16_777_216
-MOST_ELEMENTS = 16_384
 
 
 @dataclass
@@ -31,7 +30,7 @@ class Page:
         return text_of(self.document)
 
 
-def read_page(path, width=1280, height=720, only_custom=False):
+def read_page(path, width=1280, height=720, only_custom=False, places=True):
     """Reads the page in a file. With `only_custom` ordinary properties and registrations are dropped."""
     left_out, screen = LeftOut(), media.Screen(width, height)
     with open(path, "rb") as file:
@@ -48,12 +47,12 @@ def read_page(path, width=1280, height=720, only_custom=False):
         page.dropped_names = re.findall(r"@property\s+(--[^\s{]+)", " ".join(reader.registrations))
     elif reader.registrations:
         page.document["sheet"] = "\n".join(reader.registrations)
-    page.document["elements"] = [document_element(index, element, cascade, page, only_custom) for index, element in enumerate(elements)]
+    page.document["elements"] = [document_element(index, element, cascade, page, only_custom, places) for index, element in enumerate(elements)]
     return page
 
 
-def document_element(index, element, cascade, page, only_custom):
-    """One element of the document."""
+def document_element(index, element, cascade, page, only_custom, places):
+    """One element of the document; with `places` its style says in comments where its declarations come from."""
     applied = cascade.applied(element, page.document["page"])
     if only_custom:
         page.left_out.dropped.update(one.declared.name for one in applied if one.author and not is_custom(one.declared.name))
@@ -62,7 +61,7 @@ def document_element(index, element, cascade, page, only_custom):
     if names:
         page.untold[index] = names
     item = {"parent": element.parent, "label": element.label}
-    style = style_text(applied)
+    style = style_text(applied, places)
     if style:
         item["style"] = style
     return item
@@ -78,7 +77,7 @@ def note_scripts(elements, left_out, path):
 
 
 def text_of(document):
-    """A document as JSON, an element a line; over the program's limit without its comments on places."""
+    """A document as JSON, an element a line."""
     head = {name: value for name, value in document.items() if name != "elements"}
     lines = ",\n".join(json.dumps(element, ensure_ascii=False) for element in document["elements"])
     return json.dumps(head, ensure_ascii=False)[:-1] + ',\n"elements": [\n' + lines + "\n]}\n"

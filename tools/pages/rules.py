@@ -70,8 +70,8 @@ class Reader:
         for node in nodes:
             name = node.lower_at_keyword if node.type == "at-rule" else None
             head = head and (name in ("import", "charset") or name == "layer" and node.content is None)
-            if name == "import" and not head:
-                self.left_out.add(scope.file, scope.line_of(node), "an @import behind rules, which no browser reads")
+            if name == "import" and head:
+                self.read_import(node, scope)
             else:
                 self.read([node], scope)
 
@@ -141,7 +141,7 @@ class Reader:
         elif name == "layer":
             self.read_layer(node, scope, found)
         elif name == "import":
-            self.read_import(node, scope)
+            self.left_out.add(scope.file, scope.line_of(node), "an @import behind or inside of rules, which no browser reads")
         elif name == "property":
             self.registrations.append(f"@property{tinycss2.serialize(node.prelude)}{{{tinycss2.serialize(node.content or [])}}}")
         elif name not in SILENT:

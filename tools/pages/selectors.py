@@ -8,9 +8,15 @@ NEVER = frozenset((
     "user-invalid", "host", "host-context", "target-within", "target-current", "active-view-transition", "blank", "xr-overlay"))
 # A pseudo-class with the same weight, of which cssselect2 knows that it matches nothing.
 NOTHING = "hover"
+# Pseudo-classes that attributes tell, as selectors of the same weight that cssselect2 knows.
+FIELDS = ":where(input, select, textarea)"
+WRITTEN = {
+    "required": FIELDS + "[required]", "optional": FIELDS + ":not([required])",
+    "placeholder-shown": ':where(input:not([value]:not([value=""])), textarea:empty)[placeholder]',
+}
 # Pseudo-classes that browsers know and cssselect2 doesn't; a rule with any other that it doesn't know no browser takes.
 UNKNOWN_HERE = frozenset((
-    "valid", "invalid", "required", "optional", "read-only", "read-write", "placeholder-shown", "indeterminate", "default", "in-range",
+    "valid", "invalid", "read-only", "read-write", "indeterminate", "default", "in-range",
     "out-of-range", "defined", "open", "dir", "state", "popover-open", "has-slotted", "buffering", "muted", "paused", "playing", "seeking"))
 # Pseudo-elements are no elements of the tree; those that cssselect2 doesn't know.
 PSEUDO_ELEMENTS = frozenset((
@@ -47,7 +53,7 @@ def holds_nesting(tokens):
 
 
 def rewritten(tokens, parents):
-    """The text of tokens, where `&` is the parents, and pseudo-classes that never hold are one that cssselect2 knows."""
+    """The text of tokens, where `&` is the parents, and pseudo-classes that cssselect2 doesn't know are written in those that it knows."""
     text, previous = "", None
     for token in tokens:
         if token == "&":
@@ -58,6 +64,8 @@ def rewritten(tokens, parents):
             text += name + inner
         elif token.type == "ident" and previous == ":" and token.lower_value in NEVER:
             text += NOTHING
+        elif token.type == "ident" and previous == ":" and token.lower_value in WRITTEN:
+            text = text[:-1] + WRITTEN[token.lower_value]
         else:
             text += token.serialize()
         previous = token
@@ -88,13 +96,28 @@ def compiled(tokens, parents=None):
     for part in parts:
         text = written_out(part, parents)
         try:
-            found += [one for one in cssselect2.compile_selector_list(text) if one.pseudo_element is None]
+            new = [one for one in cssselect2.compile_selector_list(text) if one.pseudo_element is None]
+            for one in new:
+                one.specificity = tuple(map(sum, zip(one.specificity, weight_of_lists(part))))
+            found += new
         except Exception as error:  # cssselect2 fails in several ways on what it doesn't know
             unknown = str(error.args[-1]) if error.args else type(error).__name__
             if unknown not in UNKNOWN_HERE and not isinstance(error, NotImplementedError):
                 raise BadSelector(f"with a selector that no browser takes, {text}") from None
             left.append((text, unknown))
     return found, left
+
+
+def weight_of_lists(tokens):
+    """What the list behind `of` in :nth-child() adds to a selector's specificity, which cssselect2 doesn't count."""
+    weight = (0, 0, 0)
+    for token in tokens:
+        if token.type == "function" and token.lower_name in ("nth-child", "nth-last-child"):
+            words = [argument.lower_value if argument.type == "ident" else None for argument in token.arguments]
+            if "of" in words:
+                inner = cssselect2.compile_selector_list(token.arguments[words.index("of") + 1:])
+                weight = tuple(map(sum, zip(weight, max(one.specificity for one in inner))))
+    return weight
 
 
 def is_selector(tokens):

@@ -50,11 +50,24 @@ def expand(node):
     parts = parted(node.value)
     if len(parts) == 1 and parts[0].lower() in WIDE:
         return [(longhand, parts[0]) for longhand in longhands], None
-    values = None if holds_var(node.value) else values_of(name, parts, node.value)
+    if holds_var(node.value):
+        return [(longhand, None) for longhand in longhands], f"shorthand {name} with var()"
+    if not all(may_stand(name, token) for token in node.value):
+        return [], f"shorthand {name} with a value that it doesn't take"
+    values = values_of(name, parts, node.value)
     if values is None:
-        why = f"shorthand {name} with var()" if holds_var(node.value) else f"shorthand {name} of a form that isn't read"
-        return [(longhand, None) for longhand in longhands], why
+        return [(longhand, None) for longhand in longhands], f"shorthand {name} of a form that isn't read"
     return list(zip(longhands, values)), None
+
+
+def may_stand(name, token):
+    """Whether a token may stand in a box or pair: else all of it counts for nothing, and not one longhand alone."""
+    if name not in BOXES and name not in PAIRS or token.type in ("whitespace", "comment", "function"):
+        return True
+    if token.type in ("dimension", "percentage", "number"):
+        signed = name.startswith(("margin", "inset"))
+        return (signed or token.value >= 0) and (token.type != "number" or token.value == 0)
+    return token.type == "ident" and token.lower_value in ("auto", "normal", *WIDE)
 
 
 def values_of(name, parts, tokens):

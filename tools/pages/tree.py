@@ -2,7 +2,7 @@
 import html.parser
 import sys
 from dataclasses import dataclass, field
-from typing import List, Optional
+from typing import Optional
 
 import cssselect2
 import html5lib
@@ -108,13 +108,3 @@ def compound(wrapper):
         return f"{wrapper.local_name}#{wrapper.id}"
     classes = (wrapper.etree_element.get("class") or "").split()
     return wrapper.local_name + "".join("." + name for name in classes[:MOST_CLASSES])
-
-
-def texts_of(elements: List[Element], name):
-    """The HTML elements of one name, with their numbers among all of that local name."""
-    number = -1
-    for element in elements:
-        if element.wrapper.local_name.lower() == name:
-            number += 1
-            if element.is_html(name):
-                yield element, number

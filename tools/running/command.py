@@ -1,5 +1,6 @@
 """./run as a whole: reads the words, takes the proved program or a first look, and says what more there is to say."""
 import os
+import signal
 import subprocess
 import sys
 
@@ -9,7 +10,7 @@ from running import program, trying
 from running.answers import Answer
 from running.hints import NOT_BUILT, hint
 from running.proving import prove, tell
-from running.words import BadWords, is_page, read_words
+from running.words import JOBS, BadWords, is_page, read_words
 
 HELP = """\
 ./run [OPTIONS] [FILE]      computes a document and writes its report; without FILE, or as -, from standard input
@@ -18,7 +19,7 @@ HELP = """\
 
   --limit N         the most tokens of a value after substitution, 1 to 32768 (16384)
   --size N          1 to 4096, for jobs that use it
-  --names           names the elements of a page as people do: #3 div.card > p
+  --names           names elements as people do, by the labels that tools/page writes: #3 div.card > p
   --viewport WxH    the viewport of a page (1280x720)
   --help            this text
 
@@ -60,8 +61,11 @@ def main(arguments):
     if words.help:
         sys.stdout.write(HELP)
         return 0
-    if words.prove and not prove():
-        return NO_PROGRAM
+    try:
+        if words.prove and not prove():
+            return NO_PROGRAM
+    except KeyboardInterrupt:
+        return 128 + signal.SIGINT
     if words.prove and words.file is None:
         return 0
     try:
@@ -76,6 +80,8 @@ def main(arguments):
 
 def read_document(words):
     """The bytes of the document, one more than the program takes at most."""
+    if not JOBS[words.job]:
+        return b""
     if is_page(words.file):
         return read_page(words)
     if words.file in (None, "-"):
@@ -98,7 +104,7 @@ def compute(words, data):
     answer, data = answer_and_document(words, data)
     if answer is None:
         return NO_PROGRAM
-    write_report(named_report(answer.report, data) if words.names else answer.report)
+    write_report(named_report(answer.report, data) if words.names and answer.report else answer.report)
     sys.stderr.write(answer.line)
     if not is_page(words.file):
         hint(answer.status, answer.line, data)
@@ -118,7 +124,7 @@ def answer_and_document(words, data, caught=False):
 def answer_to(words, data, caught):
     """The answer of the proved program, or a first look; None where no program could be had."""
     if program.is_current():
-        return run_proved(words, data, caught or is_page(words.file))
+        return run_proved(words, data, caught or words.names or is_page(words.file))
     trying.warn(data)
     return trying.look(words, data)
 

@@ -14,6 +14,7 @@ def crates_in_order(name="cssvars"):
     below, order = uses_of_crates(), []
 
     def visit(crate):
+        """Puts a crate behind those that it uses."""
         if crate in below and crate not in order:
             for used in below[crate]:
                 visit(used)

@@ -1,6 +1,7 @@
 """Proving and building the program, crate by crate, with a line for each crate that is proved."""
 import os
 import shutil
+import signal
 import subprocess
 import sys
 import tempfile
@@ -10,6 +11,7 @@ from running import program
 
 # A crate is proved by two processors at least, where there are two.
 AT_ONCE = max(1, (os.cpu_count() or 1) // 2)
+MOST_LINES = 10  # of a log that are told
 
 
 def prove():
@@ -17,8 +19,9 @@ def prove():
     if shutil.which("rt") is None:
         tell("the Rattle kit's command 'rt' isn't on the path, and it alone can prove the program")
         return False
+    signal.signal(signal.SIGTERM, lambda number, frame: sys.exit(128 + number))  # so that what was started is ended too
     order, began = program.crates_in_order(), time.monotonic()
-    tell(f"proving {len(order)} crates, up to {AT_ONCE} at a time; what was proved before is kept, the first time takes about half an hour")
+    tell(f"proving {len(order)} crates, up to {AT_ONCE} at a time; what was proved before is kept, the first time takes half an hour and more")
     logs = tempfile.mkdtemp(prefix="cssvars-prove-")
     if not prove_in_order(order, logs, began):
         return False
@@ -72,10 +75,12 @@ def first_ended(running):
 
 
 def fail(crate, log):
-    """Tells that a crate wasn't proved, with the end of its log."""
-    with open(log, encoding="utf-8", errors="replace") as lines:
-        for line in lines.read().splitlines()[-10:]:
-            print(f"    {line}", file=sys.stderr)
+    """Tells that a crate wasn't proved, with the first errors of its log, or its end where it names none."""
+    with open(log, encoding="utf-8", errors="replace") as file:
+        lines = file.read().splitlines()
+    errors = [line for line in lines if ": error: " in line]
+    for line in errors[:MOST_LINES] or lines[-MOST_LINES:]:
+        print(f"    {line}", file=sys.stderr)
     tell(f"{crate} was not proved; the whole log is {log}")
 
 

@@ -8,6 +8,7 @@ from running import program
 from running.answers import Answer
 from running.proving import tell
 
+OF_REPORT = "| "  # before the lines of a report that rt tells of a run without an answer
 LARGE = 200_000  # bytes of a document from which the proved program is wanted
 
 
@@ -28,8 +29,11 @@ def look(words, data):
     told = ended.stderr.decode("utf-8", "replace")
     verdict = re.search(r"^run=ended status=(\d+) ", told, re.MULTILINE)
     if verdict is None:
-        sys.stderr.write(told)
-        tell("the first look gave no answer: it takes about a minute of computing and 1 MiB of report at most; './run --prove' proves the program")
+        sys.stderr.write("".join(line + "\n" for line in told.splitlines() if not line.startswith(OF_REPORT)))
+        if re.search(r"^run=none ", told, re.MULTILINE):
+            tell("nothing could be built of the sources; the lines above say why")
+        else:
+            tell("the first look gave no answer: it takes a minute of computing and 1 MiB of report at most; './run --prove' proves the program")
         return None
     lines = [line for line in told.splitlines() if line.startswith("cssvars: ")]
     return Answer(int(verdict.group(1)), "".join(line + "\n" for line in lines), ended.stdout)

@@ -5,7 +5,8 @@ from typing import List, Optional
 
 # The program's own options, each with the greatest number that it takes.
 NUMBERS = {"--limit": 32768, "--size": 4096}
-JOBS = ("compute",)
+# The program's jobs, and whether each reads a document.
+JOBS = {"compute": True}
 
 
 class BadWords(Exception):
@@ -17,6 +18,7 @@ class Words:
     """What one call of ./run asks for."""
 
     job: str = "compute"
+    has_job: bool = False  # whether the job was named
     options: List[str] = field(default_factory=list)  # words that are passed on to the program
     file: Optional[str] = None  # None is standard input
     viewport: Optional[str] = None
@@ -36,15 +38,16 @@ def read_words(arguments):
             take_file(words, word)
         else:
             take_option(words, word, rest)
-    if words.names and not is_page(words.file):
-        raise BadWords("--names wants a page, FILE.html")
     if words.viewport is not None and not is_page(words.file):
         raise BadWords("--viewport wants a page, FILE.html; a document has its own viewport")
     return words
 
 
 def take_file(words, word):
-    """Takes a word that isn't an option: the file."""
+    """Takes a word that isn't an option: a job, or the file."""
+    if word in JOBS and not words.has_job and words.file is None:
+        words.job, words.has_job = word, True
+        return
     if words.file is not None:
         raise BadWords(f"{word!r}: there is a file already, {words.file!r}")
     words.file = word

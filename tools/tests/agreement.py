@@ -1,6 +1,5 @@
 """Compares the report of a page with what a browser computes on it."""
 import json
-import os
 import subprocess
 from collections import Counter
 from dataclasses import dataclass, field
@@ -10,13 +9,13 @@ import tinycss2
 from browser.same import same
 from browser.values import read_values
 from documents.properties import NAMES, is_custom
-from documents.report import Line, Note, read_report
+from documents.report import Note, read_report
+from documents.styles import items, unescaped
 from pages.page import read_page
-from running import program
 from tests.known import KNOWN
+from tests.start import PROGRAM
 
 NOT_BUILT = 9
-PROGRAM = os.environ.get("CSSVARS", program.PROGRAM)
 
 
 @dataclass
@@ -113,7 +112,7 @@ def compare(browser, path, width=1280, height=720):
         if isinstance(line, Note):
             ignored.add((line.element, declared_name(page.document, line)))
         elif line.cause is None:
-            values[line.element, spelled(line.name)] = "" if line.value is None else line.value
+            values[line.element, unescaped(line.name)] = "" if line.value is None else line.value
     names = list(dict.fromkeys(name for _, name in values))
     browser.resize(width, height)
     browser.open(path)
@@ -158,20 +157,10 @@ def check_elements(elements, computed):
 
 
 def authored_names(element):
-    """The names that the author's sheets declare: what stands behind the first comment with a place."""
-    own = element.get("style", "").partition("/*")[2]
-    items = tinycss2.parse_declaration_list("/*" + own, skip_comments=True, skip_whitespace=True)
-    return {item.name for item in items if item.type == "declaration"}
-
-
-def spelled(name):
-    """The name that an identifier writes."""
-    return tinycss2.parse_one_component_value(name).value
+    """The names that the author's sheets declare: what doesn't come from the browser's own."""
+    return {item.name for item in items(element.get("style", "")) if item.place != "browser"}
 
 
 def declared_name(document, ignored):
     """The name of an ignored declaration."""
-    style = document["elements"][ignored.element].get("style", "")
-    items = tinycss2.parse_declaration_list(style, skip_comments=True, skip_whitespace=True)
-    item = items[ignored.declaration]
-    return getattr(item, "lower_name", "")
+    return items(document["elements"][ignored.element].get("style", ""))[ignored.declaration].name

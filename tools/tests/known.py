@@ -76,6 +76,16 @@ def unregistered(case):
     return case.name in case.dropped
 
 
+def snapped(case):
+    """The offset of an outline is cut to whole pixels of the device."""
+    return case.name == "outline-offset" and case.ours.endswith("px") and case.browsers == f"{int(float(case.ours[:-2]))}px"
+
+
+def too_small(case):
+    """The font size is below the least that Chromium makes of one that is relative."""
+    return case.name == "font-size" and case.browsers == "6px" and float(case.ours[:-2]) < 6
+
+
 KNOWN = (
     ("the program doesn't build @property yet, so the name isn't registered", unregistered),
     ("a shorthand with var() isn't expanded by tools/page, so what it sets isn't known here", untold),
@@ -87,6 +97,8 @@ KNOWN = (
     ("a simplification joins numbers of one unit in min() and max(), which a browser leaves apart beside a percentage", simplified),
     ("the browser's own sheet for form controls and dialogs, which changes with its versions; tools/pages has the main lines of it", control),
     ("a browser's own size of monospaced fonts is 13px in place of 16px", monospaced),
+    ("a browser cuts the offset of an outline to whole pixels of the device", snapped),
+    ("Chromium's least font size is 6px, unless a smaller one is given in px", too_small),
     ("it is inherited from an element on which it differs for one of these reasons", follows),
     ("it is computed from a font size that differs for one of these reasons", follows_font),
 )

@@ -3,10 +3,11 @@ import os
 import sys
 import unittest
 
-from browser import chromium
-from tests.agreement import compare
+from tests.start import PAGES, need_packages, need_program, start_browser
 
-PAGES = os.path.join(os.path.dirname(os.path.abspath(__file__)), "pages")
+need_packages()
+from tests.agreement import compare  # noqa: E402
+
 # The pages of design systems, with the file that Debian's package of them brings.
 SYSTEMS = {
     "bootstrap.html": ("libjs-bootstrap5", "/usr/share/javascript/bootstrap5/css/bootstrap.css"),
@@ -14,13 +15,13 @@ SYSTEMS = {
 }
 
 
-@unittest.skipIf(chromium.find() is None, "no Chromium is here")
 class PagesAgree(unittest.TestCase):
     """What the program says of a page is what the browser computes, or differs for a known reason."""
 
     @classmethod
     def setUpClass(cls):
-        cls.browser = chromium.Browser().__enter__()
+        need_program()
+        cls.browser = start_browser()
 
     @classmethod
     def tearDownClass(cls):

@@ -4,7 +4,7 @@ import sys
 
 from documents.places import NotJson, read_json
 from running.command import NO_INPUT, NO_PROGRAM, Refused, answer_and_document, read_document
-from running.words import Words, is_page
+from running.words import Words
 from views.html import view
 from views.model import Model
 

@@ -7,7 +7,7 @@ const { names: NAMES, texts: TEXTS, inherited: INHERITED } = DATA;
 const ROW = 26, INDENT = 14, DEEPEST_INDENT = 22, INVALID = -1;
 const CAUSES = {
   cycle: "On a dependency cycle: it refers to itself, directly or through others.",
-  missing: "It refers to a name that has no value here, without a fallback.",
+  missing: "It refers, without a fallback, to a name that has no value here",
   limit: "After substitution it has more tokens than the limit.",
   mismatch: "After substitution it doesn't match the grammar of the property.",
 };
@@ -171,8 +171,9 @@ function showValues() {
     button.querySelector("span").textContent = all.filter(tests[button.dataset.filter]).length;
     button.setAttribute("aria-pressed", button.dataset.filter === filter);
   }
-  const first = all.filter(tests.declared), rest = all.filter(name => !tests.declared(name));
-  const shown = [...first, ...rest].filter(tests[filter]).filter(name => !query || isHit(chosen, name) || labelHit(element));
+  const ranks = all.map(name => [element.declared.has(name) ? 0 : valueOf(chosen, name) !== INVALID ? 1 : 2, name]);
+  const sorted = ranks.sort((a, b) => a[0] - b[0]).map(([, name]) => name);  // declared here, then with a value, then without one
+  const shown = sorted.filter(tests[filter]).filter(name => !query || isHit(chosen, name) || labelHit(element));
   const list = shown.map(name => makeValue(element, name));
   if (element.notes.length && filter !== "changed" && !query) list.unshift(makeNotes(element));
   if (!list.length) list.push(Object.assign(document.createElement("div"), { className: "empty", textContent: "No name to show." }));
@@ -211,7 +212,7 @@ function makeValue(element, name) {
   row.append(marked("name", NAMES[name]), is, makeOrigin(origin, name));
   const cause = element.causes.get(name), declared = element.declared.get(name);
   if (declared && (cause || value === INVALID || TEXTS[declared.text] !== TEXTS[value])) row.append(makeDeclared(TEXTS[declared.text]));
-  if (cause) row.append(span("why", CAUSES[cause] + (cause === "missing" ? missing(element, declared) : "")));
+  if (cause) row.append(span("why", CAUSES[cause] + (cause === "missing" ? missing(element, declared) + "." : "") + actsAs(name, value, element)));
   return row;
 }
 
@@ -243,11 +244,17 @@ function makeDeclared(text) {
   return row;
 }
 
+/** What a declaration that is invalid at computed-value time acts as. */
+function actsAs(name, value, element) {
+  if (value === INVALID) return "";
+  return ` It acts as unset: this is ${INHERITED[name] && element.parent !== null ? "the parent's value" : "the initial value"}.`;
+}
+
 function missing(element, declared) {
   if (!declared) return "";
   const absent = [...TEXTS[declared.text].matchAll(/var\(\s*(--[^\s,)]+)\s*\)/gi)].map(match => match[1])
     .filter(name => { const at = NAMES.indexOf(name); return at < 0 || (valueOf(element.index, at) ?? INVALID) === INVALID; });
-  return absent.length ? ` Without a value: ${[...new Set(absent)].join(", ")}.` : "";
+  return absent.length ? `: ${[...new Set(absent)].join(", ")}` : "";
 }
 
 function showName(name) {

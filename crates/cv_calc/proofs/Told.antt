@@ -1,6 +1,6 @@
 -- The figure of a calculation tells its value.
 use Rattle.std.specs.Prelude.{Bool, true, false, List, [], ◌∷◌, map, fold, Option, Some, None, option_map, if◌then◌else◌}
-use Rattle.std.proofs.Common.{◌≡◌, refl, sym, ◌∙◌, ap, subst}
+use Rattle.std.proofs.Common.{◌≡◌, refl, ◌∙◌, ap, subst}
 use Rattle.cv_spec_ratio.specs.Ratio.{Ratio, add, mul, neg, reciprocal, zero_ratio, one_ratio}
 use Rattle.cv_spec_ratio.specs.Order.{lesser, greater}
 use Rattle.cv_spec_ratio.proofs.Laws.{mul_one}
@@ -13,7 +13,7 @@ use Rattle.cv_calc.specs.declared.calc.Calc.TheOpen as layer
 use Rattle.cv_calc.specs.Tree.{Each, by_cases, fold-Num, fold-Sum, fold-Product, fold-Negate, fold-Invert, fold-Min, fold-Max, fold-Clamp}
 use Rattle.cv_calc.specs.Unit.{same_unit, same_unit-true}
 use Rattle.cv_calc.specs.Value.{Meaning, unit_value, value, value_step, both, inverse_of, chosen_of}
-use Rattle.cv_calc.specs.Numbers.{Figure, measured, undefined, inside, outside, figure_of, unit_figure, joined, added, multiplied, least, greatest, negated, inside_or, outside_or, inverted, chosen, figure, figure_step}
+use Rattle.cv_calc.specs.Numbers.{Figure, measured, undefined, inside, outside, figure_of, unit_figure, joined, added, multiplied, least, negated, inside_or, outside_or, inverted, chosen, figure, figure_step}
 use Rattle.cv_calc.specs.Figures.{FiguresAreValues}
 use Rattle.cv_calc.proofs.Chosen.{lesser_assoc, greater_assoc, fold_chosen, sum_from_left, product_from_left}
 

@@ -5,42 +5,14 @@ use Rattle.std.specs.Str.{bytes_eq}
 use Rattle.std.proofs.Common.{◌≡◌, refl, ◌∙◌, ap}
 use Rattle.std.proofs.lemmas.Slice.Eq.{bytes_eq-Decides}
 use Rattle.cv_calc.specs.declared.unit.Unit as units
-use Rattle.cv_calc.specs.declared.unit.Unit.TheVariants.{Number, Percent, Px, Cm, Mm, Q, Inch, Pt, Pc, Em, Rem, Ex, Ch, Ic, Vw, Vh, Vmin, Vmax, Deg, Grad, Turn, S, Ms, Hz, Khz, Dppx, X, Dpi, Dpcm, Fr}
+use Rattle.cv_calc.specs.declared.unit.Unit.TheVariants.{Number}
 use Rattle.cv_calc.specs.Names.{unit_text, named, named_units, HasName, is_name_of, first_named, unit_with_name}
 
 -- each unit's own name, and the two words that are none
 pub name_back : (u : units.Unit) → unit_with_name (unit_text u) ≡ named u
 unfolding unit_with_name first_named
 name_back Number = refl
-name_back Percent = refl
-name_back Px = refl
-name_back Cm = refl
-name_back Mm = refl
-name_back Q = refl
-name_back Inch = refl
-name_back Pt = refl
-name_back Pc = refl
-name_back Em = refl
-name_back Rem = refl
-name_back Ex = refl
-name_back Ch = refl
-name_back Ic = refl
-name_back Vw = refl
-name_back Vh = refl
-name_back Vmin = refl
-name_back Vmax = refl
-name_back Deg = refl
-name_back Grad = refl
-name_back Turn = refl
-name_back S = refl
-name_back Ms = refl
-name_back Hz = refl
-name_back Khz = refl
-name_back Dppx = refl
-name_back X = refl
-name_back Dpi = refl
-name_back Dpcm = refl
-name_back Fr = refl
+name_back _ = refl
 
 pub name_found : (u : units.Unit) → HasName u → unit_with_name (unit_text u) ≡ Some u
 name_found u h = name_back u ∙ h

@@ -101,8 +101,8 @@ fn same_power(a: i64, b: i64) -> bool
     a == b
 }
 
-/// Whether two types have the same powers.
-pub(crate) fn same_powers(s: NumType, t: NumType) -> bool
+/// Whether two types have the same powers, whatever their hints (CSS Typed OM 1, "Numeric Value Typing").
+pub fn same_powers(s: NumType, t: NumType) -> bool
     ensures { result ≡ powers_same s t }
 {
     if !same_power(s.length, t.length) {

@@ -9,8 +9,8 @@ ghost use Rattle.cv_calc.specs.Types.{multiplied as times, negated as inverse_of
 use crate::power::{NO_POWERS, negative, same_powers, sum, wide, within};
 use crate::unit::{Base, NumType, Unit};
 
-/// The type of a unit.
-pub(crate) fn unit_type(unit: Unit) -> NumType
+/// The type of a unit (CSS Typed OM 1, "Numeric Value Typing").
+pub fn unit_type(unit: Unit) -> NumType
     ensures { result ≡ type_of_unit unit }
 {
     match unit {

@@ -25,3 +25,5 @@ pub mod LengthNumber
 pub mod Written
 pub mod Taken
 pub mod Free
+pub mod UnitFigures
+pub mod RefusedDivisors

@@ -11,7 +11,7 @@ use Rattle.cv_calc.specs.declared.unit.Base.{Base}
 use Rattle.cv_calc.specs.declared.unit.Base.TheVariants.{Length, Angle, Time, Frequency, Resolution, Flex}
 use Rattle.cv_calc.specs.declared.unit.NumType.{NumType}
 use Rattle.cv_calc.specs.declared.unit.Unit as units
-use Rattle.cv_calc.specs.declared.unit.Unit.TheVariants.{Number, Percent, Px, Cm, Mm, Q, Inch, Pt, Pc, Em, Rem, Ex, Ch, Ic, Vw, Vh, Vmin, Vmax, Deg, Grad, Turn, S, Ms, Hz, Khz, Dppx, X, Dpi, Dpcm, Fr}
+use Rattle.cv_calc.specs.declared.unit.Unit.TheVariants.{Number, Percent, Px, Deg, S, Hz, Dppx, Fr}
 use Rattle.cv_calc.specs.Factor.{canonical}
 use Rattle.cv_calc.specs.Linear.{no_hint, is_plain}
 use Rattle.cv_calc.specs.Types.{power_fits, if_fits, within, powers, no_powers, unit_type, moved, hinted, with_hint, shared, if_equal, same_powers, has_percent, if_same, tried, else_tried, tried_all, added_alike, added, added_next, multiplied, shared_next}
@@ -35,35 +35,7 @@ unit_of t =
 unit_of_type : (u : units.Unit) → unit_of (unit_type u) ≡ canonical u
 unfolding unit_of
 unit_of_type Number = refl
-unit_of_type Percent = refl
-unit_of_type Px = refl
-unit_of_type Cm = refl
-unit_of_type Mm = refl
-unit_of_type Q = refl
-unit_of_type Inch = refl
-unit_of_type Pt = refl
-unit_of_type Pc = refl
-unit_of_type Em = refl
-unit_of_type Rem = refl
-unit_of_type Ex = refl
-unit_of_type Ch = refl
-unit_of_type Ic = refl
-unit_of_type Vw = refl
-unit_of_type Vh = refl
-unit_of_type Vmin = refl
-unit_of_type Vmax = refl
-unit_of_type Deg = refl
-unit_of_type Grad = refl
-unit_of_type Turn = refl
-unit_of_type S = refl
-unit_of_type Ms = refl
-unit_of_type Hz = refl
-unit_of_type Khz = refl
-unit_of_type Dppx = refl
-unit_of_type X = refl
-unit_of_type Dpi = refl
-unit_of_type Dpcm = refl
-unit_of_type Fr = refl
+unit_of_type _ = refl
 
 -- units of one type have one canonical unit
 pub same_canonical : (u t : units.Unit) → unit_type u ≡ unit_type t → canonical u ≡ canonical t
@@ -71,67 +43,11 @@ same_canonical u t e = sym (unit_of_type u) ∙ ap unit_of e ∙ unit_of_type t
 
 pub unit_hint : (u : units.Unit) → (unit_type u).hint ≡ None
 unit_hint Number = refl
-unit_hint Percent = refl
-unit_hint Px = refl
-unit_hint Cm = refl
-unit_hint Mm = refl
-unit_hint Q = refl
-unit_hint Inch = refl
-unit_hint Pt = refl
-unit_hint Pc = refl
-unit_hint Em = refl
-unit_hint Rem = refl
-unit_hint Ex = refl
-unit_hint Ch = refl
-unit_hint Ic = refl
-unit_hint Vw = refl
-unit_hint Vh = refl
-unit_hint Vmin = refl
-unit_hint Vmax = refl
-unit_hint Deg = refl
-unit_hint Grad = refl
-unit_hint Turn = refl
-unit_hint S = refl
-unit_hint Ms = refl
-unit_hint Hz = refl
-unit_hint Khz = refl
-unit_hint Dppx = refl
-unit_hint X = refl
-unit_hint Dpi = refl
-unit_hint Dpcm = refl
-unit_hint Fr = refl
+unit_hint _ = refl
 
 pub plain_unit : (u : units.Unit) → is_plain (Some (unit_type u)) ≡ is_number (canonical u)
 plain_unit Number = refl
-plain_unit Percent = refl
-plain_unit Px = refl
-plain_unit Cm = refl
-plain_unit Mm = refl
-plain_unit Q = refl
-plain_unit Inch = refl
-plain_unit Pt = refl
-plain_unit Pc = refl
-plain_unit Em = refl
-plain_unit Rem = refl
-plain_unit Ex = refl
-plain_unit Ch = refl
-plain_unit Ic = refl
-plain_unit Vw = refl
-plain_unit Vh = refl
-plain_unit Vmin = refl
-plain_unit Vmax = refl
-plain_unit Deg = refl
-plain_unit Grad = refl
-plain_unit Turn = refl
-plain_unit S = refl
-plain_unit Ms = refl
-plain_unit Hz = refl
-plain_unit Khz = refl
-plain_unit Dppx = refl
-plain_unit X = refl
-plain_unit Dpi = refl
-plain_unit Dpcm = refl
-plain_unit Fr = refl
+plain_unit _ = refl
 
 -- ---- types that are the same
 

@@ -18,7 +18,7 @@ use Rattle.cv_calc.specs.declared.calc.Calc.TheFolds.{fold-roll-Calc}
 use Rattle.cv_calc.specs.Tree.{Each, by_cases}
 use Rattle.cv_simplify.specs.declared.place.Place.{Place}
 use Rattle.cv_simplify.specs.declared.place.Place.TheVariants.{Operand, Whole, Added, Multiplied, Argument}
-use Rattle.cv_simplify.specs.Text.{operator, closing, call, numeric, has_decimal, decimal_tokens, quotient_tokens, bracketed, number_tokens, number_alone, prefix, has_brackets, placed, number_added, number_placed, negative_placed, inverse_placed, Written, Line, no_line, with_child, with_rank, with_ranked, ranked, line_of, arguments_of, written, calc_text_as, calc_text}
+use Rattle.cv_simplify.specs.Text.{operator, closing, call, numeric, has_decimal, decimal_tokens, quotient_tokens, bracketed, number_tokens, number_alone, prefix, has_brackets, placed, number_added, number_placed, negative_placed, inverse_placed, Written, Line, no_line, with_child, with_rank, with_ranked, ranked, line_of, arguments_of, written, calc_text_as, calc_text, ranks}
 use Rattle.cv_simplify.proofs.Texts.{written-Num, written-Sum, written-Product, written-Negate, written-Invert, written-Min, written-Max, written-Clamp}
 use Rattle.cv_calc_laws.specs.Pieces.{TakesTexts}
 use Rattle.cv_calc_laws.specs.Units.{units_step, all_units}
@@ -133,7 +133,7 @@ module _ (fine : Token → Bool) (test : units.Unit → Bool) (takes : TakesText
   ranked_fine further ws (suc n) k = ranks_fine further ws (ranked further ws n) n k (ranked_fine further ws n k)
 
   line_fine : (further : Place) (ws : List Written) → Every IsFine ws → AreFine (line_of further ws)
-  line_fine further ws k = ranked_fine further ws 31 k
+  line_fine further ws k = ranked_fine further ws ranks k
 
   children_fine : (ws : List Written) (l : Line) → Every IsFine ws → AreFine l.line → AreFine (fold (with_child Whole Argument) l ws).line
   children_fine [] l k h = h

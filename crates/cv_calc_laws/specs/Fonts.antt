@@ -6,7 +6,7 @@ use Rattle.cv_spec_ratio.specs.Ratio.{Ratio}
 use Rattle.cv_spec_text.specs.declared.token.Token.{Token}
 use Rattle.cv_spec_text.specs.declared.token.Token.TheVariants.{Ident}
 use Rattle.cv_calc.specs.declared.unit.Unit as units
-use Rattle.cv_calc.specs.declared.unit.Unit.TheVariants.{Em, Rem, Ex, Ch, Ic}
+use Rattle.cv_calc.specs.declared.unit.Unit.TheVariants.{Number, Percent, Px, Cm, Mm, Q, Inch, Pt, Pc, Em, Rem, Ex, Ch, Ic, Vw, Vh, Vmin, Vmax, Deg, Grad, Turn, S, Ms, Hz, Khz, Dppx, X, Dpi, Dpcm, Fr}
 use Rattle.cv_calc.specs.declared.context.Context.{Context}
 use Rattle.cv_calc.specs.declared.calc.Calc.{Calc}
 use Rattle.cv_calc.specs.declared.calc.Calc.TheVariants.{Num}
@@ -25,7 +25,31 @@ is_font_unit root Ex = true
 is_font_unit root Ch = true
 is_font_unit root Ic = true
 is_font_unit root Rem = root
-is_font_unit root u = false
+is_font_unit root Number = false
+is_font_unit root Percent = false
+is_font_unit root Px = false
+is_font_unit root Cm = false
+is_font_unit root Mm = false
+is_font_unit root Q = false
+is_font_unit root Inch = false
+is_font_unit root Pt = false
+is_font_unit root Pc = false
+is_font_unit root Vw = false
+is_font_unit root Vh = false
+is_font_unit root Vmin = false
+is_font_unit root Vmax = false
+is_font_unit root Deg = false
+is_font_unit root Grad = false
+is_font_unit root Turn = false
+is_font_unit root S = false
+is_font_unit root Ms = false
+is_font_unit root Hz = false
+is_font_unit root Khz = false
+is_font_unit root Dppx = false
+is_font_unit root X = false
+is_font_unit root Dpi = false
+is_font_unit root Dpcm = false
+is_font_unit root Fr = false
 
 abbrev pub is_other_unit : Bool → units.Unit → Bool
 is_other_unit root u = not (is_font_unit root u)

@@ -3,3 +3,5 @@ pub mod Single
 pub mod Fonts
 pub mod OfType
 pub mod Pieces
+pub mod Divisors
+pub mod Refused

@@ -8,7 +8,7 @@ use Rattle.cv_calc.specs.declared.calc.Calc.{Calc}
 use Rattle.cv_calc.specs.declared.calc.Calc.TheVariants.{Num, Sum, Product, Negate, Min, Max, Clamp}
 use Rattle.cv_simplify.specs.Simplified.{any_unit}
 use Rattle.cv_simplify.specs.Counted.{inside, all_inside}
-use Rattle.cv_simplify.specs.Text.{written}
+use Rattle.cv_simplify.specs.Text.{written, ranks}
 use Rattle.cv_calc_roundtrip.proofs.Digits.{and_true}
 use Rattle.cv_calc_roundtrip.proofs.Equations.{inside-Num, inside-Sum, inside-Product, inside-Negate, inside-Min, inside-Max, inside-Clamp}
 use Rattle.cv_calc_roundtrip.proofs.Orders.{pairs_apart, apart_pairs, text_rank, in_text_order}
@@ -71,7 +71,7 @@ heads_of (e ∷ es) = ap (λ hs. head e.calc ∷ hs) (heads_of es)
 sum_of_row : (cs : List Calc) → Entries cs → Ordered cs → Known (Sum cs)
 sum_of_row cs n r =
     let es = n.entries in
-    let sorted_calcs : calcs (sorted es) ≡ r.first ∷ r.second ∷ r.rest = in_ranks_map rank text_rank (λ (e : Entry). e.calc) (λ e. refl) 31 es ∙ ap in_text_order n.same ∙ r.order in
+    let sorted_calcs : calcs (sorted es) ≡ r.first ∷ r.second ∷ r.rest = in_ranks_map rank text_rank (λ (e : Entry). e.calc) (λ e. refl) ranks es ∙ ap in_text_order n.same ∙ r.order in
     let s : Split (sorted es) = split_entries (sorted es) r.first r.second r.rest sorted_calcs in
     let same_calcs : calcs (s.first ∷ s.second ∷ s.rest) ≡ r.first ∷ r.second ∷ r.rest = ap calcs (sym s.order) ∙ sorted_calcs in
     let same_heads : heads (s.first ∷ s.second ∷ s.rest) ≡ map head (r.first ∷ r.second ∷ r.rest) = heads_of (s.first ∷ s.second ∷ s.rest) ∙ ap (map head) same_calcs in

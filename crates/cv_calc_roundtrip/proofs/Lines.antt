@@ -14,7 +14,7 @@ use Rattle.cv_calcread.specs.Literals.{exact_number}
 use Rattle.cv_calcread.specs.Reading.{one_or, made, opened_by}
 use Rattle.cv_simplify.specs.declared.place.Place.{Place}
 use Rattle.cv_simplify.specs.declared.place.Place.TheVariants.{Operand, Added}
-use Rattle.cv_simplify.specs.Text.{Written, Line, no_line, with_child, with_rank, with_ranked, ranked, line_of, opening, closing, call, operator}
+use Rattle.cv_simplify.specs.Text.{Written, Line, no_line, with_child, with_rank, with_ranked, ranked, line_of, opening, closing, call, operator, ranks}
 use Rattle.cv_calc_roundtrip.proofs.Known.{Opening, Adding}
 use Rattle.cv_calc_roundtrip.proofs.Numerals.{narrow, narrow_append}
 use Rattle.cv_calc_roundtrip.proofs.Ranks.{has_rank, in_ranks}
@@ -43,8 +43,8 @@ module _ (further : Place) where
       ∙ rank_fold r (fold (with_child Operand further) no_line (in_ranks rank_of r ws)) ws
       ∙ sym (fold-append (with_child Operand further) no_line (in_ranks rank_of r ws) (filter (has_rank rank_of r) ws))
 
-  pub line_is : (ws : List Written) → line_of further ws ≡ (fold (with_child Operand further) no_line (in_ranks rank_of 31 ws)).line
-  line_is ws = ap (λ (l : Line). l.line) (ranked_is 31 ws)
+  pub line_is : (ws : List Written) → line_of further ws ≡ (fold (with_child Operand further) no_line (in_ranks rank_of ranks ws)).line
+  line_is ws = ap (λ (l : Line). l.line) (ranked_is ranks ws)
 
 -- ---- brackets
 

@@ -13,7 +13,7 @@ use Rattle.cv_calc.specs.declared.calc.Calc.TheOpen.{Calc-F, Num, Sum, Product, 
 use Rattle.cv_calc.specs.declared.calc.Calc.TheViews.{out-Calc, roll-Calc, roll-out-Calc}
 use Rattle.cv_calc.specs.Unit.{same_unit, same_unit-true}
 use Rattle.cv_simplify.specs.Simplified.{any_unit}
-use Rattle.cv_simplify.specs.Text.{Written, written, unit_rank}
+use Rattle.cv_simplify.specs.Text.{Written, written, unit_rank, last_rank, ranks}
 use Rattle.cv_simplify.proofs.Texts.{written-Num, written-Sum, written-Product, written-Negate, written-Invert, written-Min, written-Max, written-Clamp}
 use Rattle.cv_calc_roundtrip.proofs.Digits.{and_true, both_true}
 use Rattle.cv_calc_roundtrip.proofs.Heads.{Head, number, sum, product, negate, invert, least, greatest, clamp, head, head_as, is_number, joinable, none_joins, apart, map_append}
@@ -98,7 +98,7 @@ text_rank c = (written c).rank
 
 -- the children in the order of their text
 abbrev pub in_text_order : List Calc → List Calc
-in_text_order cs = in_ranks text_rank 31 cs
+in_text_order cs = in_ranks text_rank ranks cs
 
 number_as : (c : Calc) (l : Calc-F Calc) (v : Ratio) (u : units.Unit) → roll-Calc l ≡ c → head_as l ≡ number v u → c ≡ tree.Num v u
 number_as c (Num w t) v u e h = let first : w ≡ v = cc in let second : t ≡ u = cc in sym e ∙ rolls-Num w t ∙ ap₂ tree.Num first second
@@ -117,7 +117,7 @@ number_is c v u h = number_as c (out-Calc c) v u (roll-out-Calc c) h
 number_rank : (c : Calc) (v : Ratio) (u : units.Unit) → head c ≡ number v u → text_rank c ≡ unit_rank u
 number_rank c v u h = ap text_rank (number_is c v u h) ∙ ap (λ (w : Written). w.rank) (written-Num v u)
 
-unit_low : (u : units.Unit) → nat_lt (unit_rank u) 30 ≡ true
+unit_low : (u : units.Unit) → nat_lt (unit_rank u) last_rank ≡ true
 unit_low unit.Number = refl
 unit_low _ = refl
 
@@ -150,17 +150,17 @@ rank_apart c d e = go (head c) (head d) refl refl
     go clamp k f g = refl
 
 -- a calculation of a rank below the last is a number, and one that is a number has such a rank
-low_as : (c : Calc) (l : Calc-F Calc) → roll-Calc l ≡ c → nat_lt (text_rank c) 30 ≡ is_number (head_as l)
-low_as c (Num v u) e = ap (λ d. nat_lt (text_rank d) 30) (sym e ∙ rolls-Num v u) ∙ ap (λ (w : Written). nat_lt w.rank 30) (written-Num v u) ∙ unit_low u
-low_as c (Sum cs) e = ap (λ d. nat_lt (text_rank d) 30) (sym e ∙ rolls-Sum cs) ∙ ap (λ (w : Written). nat_lt w.rank 30) (written-Sum cs)
-low_as c (Product cs) e = ap (λ d. nat_lt (text_rank d) 30) (sym e ∙ rolls-Product cs) ∙ ap (λ (w : Written). nat_lt w.rank 30) (written-Product cs)
-low_as c (Negate d) e = ap (λ d. nat_lt (text_rank d) 30) (sym e ∙ rolls-Negate d) ∙ ap (λ (w : Written). nat_lt w.rank 30) (written-Negate d)
-low_as c (Invert d) e = ap (λ d. nat_lt (text_rank d) 30) (sym e ∙ rolls-Invert d) ∙ ap (λ (w : Written). nat_lt w.rank 30) (written-Invert d)
-low_as c (Min cs) e = ap (λ d. nat_lt (text_rank d) 30) (sym e ∙ rolls-Min cs) ∙ ap (λ (w : Written). nat_lt w.rank 30) (written-Min cs)
-low_as c (Max cs) e = ap (λ d. nat_lt (text_rank d) 30) (sym e ∙ rolls-Max cs) ∙ ap (λ (w : Written). nat_lt w.rank 30) (written-Max cs)
-low_as c (Clamp a b d) e = ap (λ d. nat_lt (text_rank d) 30) (sym e ∙ rolls-Clamp a b d) ∙ ap (λ (w : Written). nat_lt w.rank 30) (written-Clamp a b d)
+low_as : (c : Calc) (l : Calc-F Calc) → roll-Calc l ≡ c → nat_lt (text_rank c) last_rank ≡ is_number (head_as l)
+low_as c (Num v u) e = ap (λ d. nat_lt (text_rank d) last_rank) (sym e ∙ rolls-Num v u) ∙ ap (λ (w : Written). nat_lt w.rank last_rank) (written-Num v u) ∙ unit_low u
+low_as c (Sum cs) e = ap (λ d. nat_lt (text_rank d) last_rank) (sym e ∙ rolls-Sum cs) ∙ ap (λ (w : Written). nat_lt w.rank last_rank) (written-Sum cs)
+low_as c (Product cs) e = ap (λ d. nat_lt (text_rank d) last_rank) (sym e ∙ rolls-Product cs) ∙ ap (λ (w : Written). nat_lt w.rank last_rank) (written-Product cs)
+low_as c (Negate d) e = ap (λ d. nat_lt (text_rank d) last_rank) (sym e ∙ rolls-Negate d) ∙ ap (λ (w : Written). nat_lt w.rank last_rank) (written-Negate d)
+low_as c (Invert d) e = ap (λ d. nat_lt (text_rank d) last_rank) (sym e ∙ rolls-Invert d) ∙ ap (λ (w : Written). nat_lt w.rank last_rank) (written-Invert d)
+low_as c (Min cs) e = ap (λ d. nat_lt (text_rank d) last_rank) (sym e ∙ rolls-Min cs) ∙ ap (λ (w : Written). nat_lt w.rank last_rank) (written-Min cs)
+low_as c (Max cs) e = ap (λ d. nat_lt (text_rank d) last_rank) (sym e ∙ rolls-Max cs) ∙ ap (λ (w : Written). nat_lt w.rank last_rank) (written-Max cs)
+low_as c (Clamp a b d) e = ap (λ d. nat_lt (text_rank d) last_rank) (sym e ∙ rolls-Clamp a b d) ∙ ap (λ (w : Written). nat_lt w.rank last_rank) (written-Clamp a b d)
 
-pub low_number : (c : Calc) → nat_lt (text_rank c) 30 ≡ is_number (head c)
+pub low_number : (c : Calc) → nat_lt (text_rank c) last_rank ≡ is_number (head c)
 low_number c = low_as c (out-Calc c) (roll-out-Calc c)
 
 -- ---- a list in the order of ranks

@@ -26,7 +26,7 @@ use Rattle.cv_calcread.specs.Literals.{exact_number}
 use Rattle.cv_calcread.proofs.Evaluations.{evaluated-Product}
 use Rattle.cv_simplify.specs.Counted.{Counted, counted, counted_step, inside}
 use Rattle.cv_simplify.specs.Simplified as simplified
-use Rattle.cv_simplify.specs.Text.{Written, written, line_of, ranked, number_placed}
+use Rattle.cv_simplify.specs.Text.{Written, written, line_of, ranked, number_placed, last_rank}
 use Rattle.cv_simplify.specs.declared.place.Place.{Place}
 use Rattle.cv_simplify.specs.declared.place.Place.TheVariants.{Operand, Multiplied}
 use Rattle.cv_simplify.proofs.Texts.{written-Num, written-Product}
@@ -154,15 +154,15 @@ swapped (Some a) (Some b) = ap Some (sym (mul-assoc a b one_ratio) ∙ ap (λ r.
 
 -- ---- the text
 
-two_texts : (p q : Place → List Token) → line_of Multiplied (record { rank = 0; at_place = p } ∷ record { rank = 30; at_place = q } ∷ []) ≡ p Operand ++ q Multiplied
+two_texts : (p q : Place → List Token) → line_of Multiplied (record { rank = 0; at_place = p } ∷ record { rank = last_rank; at_place = q } ∷ []) ≡ p Operand ++ q Multiplied
 unfolding ranked
 two_texts p q = refl
 
-two_turned : (p q : Place → List Token) → line_of Multiplied (record { rank = 30; at_place = q } ∷ record { rank = 0; at_place = p } ∷ []) ≡ p Operand ++ q Multiplied
+two_turned : (p q : Place → List Token) → line_of Multiplied (record { rank = last_rank; at_place = q } ∷ record { rank = 0; at_place = p } ∷ []) ≡ p Operand ++ q Multiplied
 unfolding ranked
 two_turned p q = refl
 
-as_last : (w : Written) → Composite w → w ≡ record { rank = 30; at_place = w.at_place }
+as_last : (w : Written) → Composite w → w ≡ record { rank = last_rank; at_place = w.at_place }
 as_last w c = ap (λ (r : ℕ). record { rank = r; at_place = w.at_place }) c.rank
 
 module _ (n : Ratio) (x : Calc) (within : in_bounds n ≡ true) (h : times_head (head x) ≡ true) (composite : Composite (written x)) (k : Known x) where

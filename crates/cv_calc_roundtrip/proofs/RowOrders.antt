@@ -4,6 +4,7 @@ use Rattle.std.specs.List.{filter}
 use Rattle.std.proofs.Common.{◌≡◌, refl, sym, ◌∙◌, ap, arith}
 use Rattle.std.proofs.lemmas.Bool.Decides.{nat_tests}
 use Rattle.cv_calc.specs.declared.calc.Calc.{Calc}
+use Rattle.cv_simplify.specs.Text.{last_rank, ranks}
 use Rattle.cv_simplify.specs.Simplified.{any_unit}
 use Rattle.cv_calc_roundtrip.proofs.Digits.{and_true}
 use Rattle.cv_calc_roundtrip.proofs.Heads.{Head, number, sum, product, negate, invert, least, greatest, clamp, head, is_negate, is_number, is_sum, apart, not_true}
@@ -56,7 +57,7 @@ plus_zero a = omega arith
 
 length_order : (cs : List Calc) → length (in_text_order cs) ≡ length cs
 unfolding plus
-length_order cs = sym (all (in_text_order cs)) ∙ total_in_ranks text_rank (λ (c : Calc). 1) 0 plus plus_comm plus_assoc plus_zero 31 rank_bound cs ∙ all cs
+length_order cs = sym (all (in_text_order cs)) ∙ total_in_ranks text_rank (λ (c : Calc). 1) 0 plus plus_comm plus_assoc plus_zero ranks rank_bound cs ∙ all cs
   where
     one_more : (n : ℕ) → 1 + n ≡ suc n
     one_more n = omega arith
@@ -66,7 +67,7 @@ length_order cs = sym (all (in_text_order cs)) ∙ total_in_ranks text_rank (λ 
     all (c ∷ cs) = ap (λ n. 1 + n) (all cs) ∙ one_more (length cs)
 
 flat_order : (cs : List Calc) → no_sums (map head (in_text_order cs)) ≡ no_sums (map head cs)
-flat_order cs = sym (all (in_text_order cs)) ∙ total_in_ranks text_rank (λ (c : Calc). not (is_sum (head c))) true both_and and_comm and_assoc and_unit 31 rank_bound cs ∙ all cs
+flat_order cs = sym (all (in_text_order cs)) ∙ total_in_ranks text_rank (λ (c : Calc). not (is_sum (head c))) true both_and and_comm and_assoc and_unit ranks rank_bound cs ∙ all cs
   where
     all : (cs : List Calc) → total text_rank (λ (c : Calc). not (is_sum (head c))) true both_and and_comm and_assoc and_unit cs ≡ no_sums (map head cs)
     all [] = refl
@@ -90,7 +91,7 @@ either_false true = refl
 either_false false = refl
 
 number_order : (cs : List Calc) → has_number (map head (in_text_order cs)) ≡ has_number (map head cs)
-number_order cs = sym (all (in_text_order cs)) ∙ total_in_ranks text_rank (λ (c : Calc). is_number (head c)) false either either_comm either_assoc either_false 31 rank_bound cs ∙ all cs
+number_order cs = sym (all (in_text_order cs)) ∙ total_in_ranks text_rank (λ (c : Calc). is_number (head c)) false either either_comm either_assoc either_false ranks rank_bound cs ∙ all cs
   where
     all : (cs : List Calc) → total text_rank (λ (c : Calc). is_number (head c)) false either either_comm either_assoc either_false cs ≡ has_number (map head cs)
     all [] = refl
@@ -109,14 +110,14 @@ number_no_negate greatest e = refl
 number_no_negate clamp e = refl
 
 -- those of the last rank are no numbers
-last_numbers : (cs : List Calc) → has_number (map head (filter (has_rank text_rank 30) cs)) ≡ false
+last_numbers : (cs : List Calc) → has_number (map head (filter (has_rank text_rank last_rank) cs)) ≡ false
 last_numbers [] = refl
-last_numbers (c ∷ cs) = go (text_rank c == 30) refl (last_numbers cs)
+last_numbers (c ∷ cs) = go (text_rank c == last_rank) refl (last_numbers cs)
   where
-    high : (m : ℕ) → (m == 30) ≡ true → nat_lt m 30 ≡ false
+    high : (m : ℕ) → (m == last_rank) ≡ true → nat_lt m last_rank ≡ false
     high m h = grind (arith, nat_tests)
 
-    go : (b : Bool) → (text_rank c == 30) ≡ b → has_number (map head (filter (has_rank text_rank 30) cs)) ≡ false → has_number (map head (filter (has_rank text_rank 30) (c ∷ cs))) ≡ false
+    go : (b : Bool) → (text_rank c == last_rank) ≡ b → has_number (map head (filter (has_rank text_rank last_rank) cs)) ≡ false → has_number (map head (filter (has_rank text_rank last_rank) (c ∷ cs))) ≡ false
     go true is more = let off : is_number (head c) ≡ false = sym (low_number c) ∙ high (text_rank c) is in rw (is, off) more
     go false is more = rw is more
 
@@ -127,27 +128,27 @@ either_parts false b h = (refl, h)
 not_first : (c : Calc) (cs : List Calc) → starts (map head (c ∷ cs)) ≡ true → has_number (map head (c ∷ cs)) ≡ false → is_negate (head c) ≡ false
 not_first c cs h k = not_true (is_negate (head c)) (sym (ap (λ b. b || not (is_negate (head c))) k) ∙ h)
 
-last_rank_is : (m : ℕ) → nat_lt m 30 ≡ false → nat_lt m 31 ≡ true → (m == 30) ≡ true
+last_rank_is : (m : ℕ) → nat_lt m last_rank ≡ false → nat_lt m ranks ≡ true → (m == last_rank) ≡ true
 last_rank_is m h k = grind (arith, nat_tests)
 
 module _ (x : Calc) (xs : List Calc) where
   -- where there are numbers, one is first
-  first_low : (bs cs : List Calc) → in_ranks text_rank 30 cs ≡ bs → in_ranks text_rank 30 cs ++ filter (has_rank text_rank 30) cs ≡ x ∷ xs → starts (map head cs) ≡ true → is_negate (head x) ≡ false
+  first_low : (bs cs : List Calc) → in_ranks text_rank last_rank cs ≡ bs → in_ranks text_rank last_rank cs ++ filter (has_rank text_rank last_rank) cs ≡ x ∷ xs → starts (map head cs) ≡ true → is_negate (head x) ≡ false
   first_low (a ∷ bs) cs e order h =
-      let low : all_low 30 (a ∷ bs) ≡ true = ap (all_low 30) (sym e) ∙ ranks_low 30 cs in
-      let joined : (a ∷ bs) ++ filter (has_rank text_rank 30) cs ≡ x ∷ xs = ap (λ ys. ys ++ filter (has_rank text_rank 30) cs) (sym e) ∙ order in
+      let low : all_low last_rank (a ∷ bs) ≡ true = ap (all_low last_rank) (sym e) ∙ ranks_low last_rank cs in
+      let joined : (a ∷ bs) ++ filter (has_rank text_rank last_rank) cs ≡ x ∷ xs = ap (λ ys. ys ++ filter (has_rank text_rank last_rank) cs) (sym e) ∙ order in
       let same : a ≡ x = cc in
-      ap (λ c. is_negate (head c)) (sym same) ∙ number_no_negate (head a) (sym (low_number a) ∙ (and_true (nat_lt (text_rank a) 30) (all_low 30 bs) low).0)
+      ap (λ c. is_negate (head c)) (sym same) ∙ number_no_negate (head a) (sym (low_number a) ∙ (and_true (nat_lt (text_rank a) last_rank) (all_low last_rank bs) low).0)
   first_low [] [] e order h = cc
   first_low [] (c ∷ cs) e order h =
-      let last : filter (has_rank text_rank 30) (c ∷ cs) ≡ x ∷ xs = ap (λ ys. ys ++ filter (has_rank text_rank 30) (c ∷ cs)) (sym e) ∙ order in
-      let none : has_number (map head (c ∷ cs)) ≡ false = sym (number_order (c ∷ cs)) ∙ ap (λ ys. has_number (map head (ys ++ filter (has_rank text_rank 30) (c ∷ cs)))) e ∙ last_numbers (c ∷ cs) in
-      let here : (text_rank c == 30) ≡ true = last_rank_is (text_rank c) (low_number c ∙ (either_parts (is_number (head c)) (has_number (map head cs)) none).0) (rank_bound c) in
-      let front : c ∷ filter (has_rank text_rank 30) cs ≡ x ∷ xs = sym (kept here) ∙ last in
+      let last : filter (has_rank text_rank last_rank) (c ∷ cs) ≡ x ∷ xs = ap (λ ys. ys ++ filter (has_rank text_rank last_rank) (c ∷ cs)) (sym e) ∙ order in
+      let none : has_number (map head (c ∷ cs)) ≡ false = sym (number_order (c ∷ cs)) ∙ ap (λ ys. has_number (map head (ys ++ filter (has_rank text_rank last_rank) (c ∷ cs)))) e ∙ last_numbers (c ∷ cs) in
+      let here : (text_rank c == last_rank) ≡ true = last_rank_is (text_rank c) (low_number c ∙ (either_parts (is_number (head c)) (has_number (map head cs)) none).0) (rank_bound c) in
+      let front : c ∷ filter (has_rank text_rank last_rank) cs ≡ x ∷ xs = sym (kept here) ∙ last in
       let same : c ≡ x = cc in
       ap (λ d. is_negate (head d)) (sym same) ∙ not_first c cs h none
     where
-      kept : (text_rank c == 30) ≡ true → filter (has_rank text_rank 30) (c ∷ cs) ≡ c ∷ filter (has_rank text_rank 30) cs
+      kept : (text_rank c == last_rank) ≡ true → filter (has_rank text_rank last_rank) (c ∷ cs) ≡ c ∷ filter (has_rank text_rank last_rank) cs
       kept e = rw e refl
 
 -- ---- in the order of the text
@@ -167,7 +168,7 @@ row_ordered cs r = go (in_text_order cs) refl
       second = y;
       rest = zs;
       order = e;
-      begins = first_low x (y ∷ zs) (in_ranks text_rank 30 cs) cs refl e r.begins;
-      differ = apart_pairs any_unit (map head (x ∷ y ∷ zs)) (ap (λ (ds : List Calc). pairs_apart any_unit (map head ds)) (sym e) ∙ pairs_ranks 31 cs r.differ);
+      begins = first_low x (y ∷ zs) (in_ranks text_rank last_rank cs) cs refl e r.begins;
+      differ = apart_pairs any_unit (map head (x ∷ y ∷ zs)) (ap (λ (ds : List Calc). pairs_apart any_unit (map head ds)) (sym e) ∙ pairs_ranks ranks cs r.differ);
       flat = ap (λ (ds : List Calc). no_sums (map head ds)) (sym e) ∙ flat_order cs ∙ r.flat;
     }

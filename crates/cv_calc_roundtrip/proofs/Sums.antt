@@ -24,7 +24,7 @@ use Rattle.cv_calcread.specs.Literals.{exact_number}
 use Rattle.cv_calcread.proofs.Evaluations.{evaluated-Sum}
 use Rattle.cv_simplify.specs.Counted.{Counted, counted, counted_step, inside, all_inside, longer_inside, prefixes_inside}
 use Rattle.cv_simplify.specs.Simplified.{any_unit, joined_by, with_child as with_calc, one_or, sum_row, summed, with_terms_of}
-use Rattle.cv_simplify.specs.Text.{Written, with_child, no_line, written, unit_rank, line_of}
+use Rattle.cv_simplify.specs.Text.{Written, with_child, no_line, written, unit_rank, line_of, ranks}
 use Rattle.cv_simplify.specs.declared.place.Place.TheVariants.{Operand, Added}
 use Rattle.cv_simplify.proofs.Texts.{written-Num, written-Sum, written-Product, written-Negate, written-Invert, written-Min, written-Max, written-Clamp}
 use Rattle.cv_calc_roundtrip.proofs.Answered.{all_fine}
@@ -77,43 +77,43 @@ rows before (c ∷ cs) e s h i j =
 
 -- ---- the order of ranks
 
-unit_bound : (u : units.Unit) → nat_lt (unit_rank u) 31 ≡ true
+unit_bound : (u : units.Unit) → nat_lt (unit_rank u) ranks ≡ true
 unit_bound unit.Number = refl
 unit_bound _ = refl
 
-pub rank_bound : (c : Calc) → nat_lt (written c).rank 31 ≡ true
-rank_bound = by_cases (λ c. nat_lt (written c).rank 31 ≡ true) (record {
-  num = λ v u. ap (λ (w : Written). nat_lt w.rank 31) (written-Num v u) ∙ unit_bound u;
-  sum = λ cs h. ap (λ (w : Written). nat_lt w.rank 31) (written-Sum cs);
-  product = λ cs h. ap (λ (w : Written). nat_lt w.rank 31) (written-Product cs);
-  negate = λ c h. ap (λ (w : Written). nat_lt w.rank 31) (written-Negate c);
-  invert = λ c h. ap (λ (w : Written). nat_lt w.rank 31) (written-Invert c);
-  min = λ cs h. ap (λ (w : Written). nat_lt w.rank 31) (written-Min cs);
-  max = λ cs h. ap (λ (w : Written). nat_lt w.rank 31) (written-Max cs);
-  clamp = λ a b c h k l. ap (λ (w : Written). nat_lt w.rank 31) (written-Clamp a b c);
+pub rank_bound : (c : Calc) → nat_lt (written c).rank ranks ≡ true
+rank_bound = by_cases (λ c. nat_lt (written c).rank ranks ≡ true) (record {
+  num = λ v u. ap (λ (w : Written). nat_lt w.rank ranks) (written-Num v u) ∙ unit_bound u;
+  sum = λ cs h. ap (λ (w : Written). nat_lt w.rank ranks) (written-Sum cs);
+  product = λ cs h. ap (λ (w : Written). nat_lt w.rank ranks) (written-Product cs);
+  negate = λ c h. ap (λ (w : Written). nat_lt w.rank ranks) (written-Negate c);
+  invert = λ c h. ap (λ (w : Written). nat_lt w.rank ranks) (written-Invert c);
+  min = λ cs h. ap (λ (w : Written). nat_lt w.rank ranks) (written-Min cs);
+  max = λ cs h. ap (λ (w : Written). nat_lt w.rank ranks) (written-Max cs);
+  clamp = λ a b c h k l. ap (λ (w : Written). nat_lt w.rank ranks) (written-Clamp a b c);
 })
 
 abbrev pub rank : Entry → ℕ
 rank e = (written e.calc).rank
 
-bound : (e : Entry) → nat_lt (rank e) 31 ≡ true
+bound : (e : Entry) → nat_lt (rank e) ranks ≡ true
 bound e = rank_bound e.calc
 
 abbrev pub sorted : List Entry → List Entry
-sorted es = in_ranks rank 31 es
+sorted es = in_ranks rank ranks es
 
 abbrev pub heads : List Entry → List Head
 heads es = map (λ (e : Entry). head e.calc) es
 
 kinds_sorted : (es : List Entry) → merged (kinds (sorted es)) ≡ merged (kinds es)
-kinds_sorted es = sym (all (sorted es)) ∙ total_in_ranks rank (λ (e : Entry). Some e.term.kind) None merge merge_comm merge_assoc merge_none 31 bound es ∙ all es
+kinds_sorted es = sym (all (sorted es)) ∙ total_in_ranks rank (λ (e : Entry). Some e.term.kind) None merge merge_comm merge_assoc merge_none ranks bound es ∙ all es
   where
     all : (es : List Entry) → total rank (λ (e : Entry). Some e.term.kind) None merge merge_comm merge_assoc merge_none es ≡ merged (kinds es)
     all [] = refl
     all (e ∷ es) = ap (merge (Some e.term.kind)) (all es)
 
 values_sorted : (m : Meaning) (es : List Entry) → sum_of (map (value m) (calcs (sorted es))) ≡ sum_of (map (value m) (calcs es))
-values_sorted m es = sym (all (sorted es)) ∙ total_in_ranks rank (λ (e : Entry). value m e.calc) (Some zero_ratio) (both add) both_comm both_assoc both_zero 31 bound es ∙ all es
+values_sorted m es = sym (all (sorted es)) ∙ total_in_ranks rank (λ (e : Entry). value m e.calc) (Some zero_ratio) (both add) both_comm both_assoc both_zero ranks bound es ∙ all es
   where
     all : (es : List Entry) → total rank (λ (e : Entry). value m e.calc) (Some zero_ratio) (both add) both_comm both_assoc both_zero es ≡ sum_of (map (value m) (calcs es))
     all [] = refl
@@ -137,7 +137,7 @@ abbrev pub both_and : Bool → Bool → Bool
 both_and a b = a && b
 
 numbers_sorted : (es : List Entry) → numbers_alone (heads (sorted es)) ≡ numbers_alone (heads es)
-numbers_sorted es = sym (all (sorted es)) ∙ total_in_ranks rank (λ (e : Entry). is_number (head e.calc)) true both_and and_comm and_assoc and_unit 31 bound es ∙ all es
+numbers_sorted es = sym (all (sorted es)) ∙ total_in_ranks rank (λ (e : Entry). is_number (head e.calc)) true both_and and_comm and_assoc and_unit ranks bound es ∙ all es
   where
     all : (es : List Entry) → total rank (λ (e : Entry). is_number (head e.calc)) true both_and and_comm and_assoc and_unit es ≡ numbers_alone (heads es)
     all [] = refl
@@ -236,7 +236,7 @@ module _ (es : List Entry) (first second : Entry) (rest : List Entry) (order : s
   line_all =
       line_is Added (map written (calcs es))
       ∙ ap (λ ws. (fold (with_child Operand Added) no_line ws).line)
-      (ap (in_ranks rank_of 31) (written_calcs es) ∙ sym (in_ranks_map rank rank_of (λ (e : Entry). written e.calc) (λ e. refl) 31 es) ∙ ap texts order)
+      (ap (in_ranks rank_of ranks) (written_calcs es) ∙ sym (in_ranks_map rank rank_of (λ (e : Entry). written e.calc) (λ e. refl) ranks es) ∙ ap texts order)
 
   whole_all : (after : List Token) → ReadsTerms exact_number (line_of Added (map written (calcs es)) ++ after) after read_all
   whole_all after =

@@ -1,5 +1,5 @@
 -- What the pass over a calculation finds of its parts are their figures.
-use Rattle.std.specs.Prelude.{List, [], ◌∷◌, map, fold, Option, Some, None}
+use Rattle.std.specs.Prelude.{List, [], ◌∷◌, map, fold, Some}
 use Rattle.std.proofs.Common.{◌≡◌, refl, sym, ◌∙◌, ap, ap₂}
 use Rattle.cv_spec_ratio.specs.Ratio.{Ratio, zero_ratio, one_ratio}
 use Rattle.cv_calc.specs.declared.unit.Unit as units

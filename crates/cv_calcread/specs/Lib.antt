@@ -1,4 +1,5 @@
 pub mod Answer
+pub mod Divisors
 pub mod Figures
 pub mod Literals
 pub mod Reading

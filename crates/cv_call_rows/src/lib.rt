@@ -1,5 +1,19 @@
-//! Rows of typed values, as tests. There is no code of its own here.
+//! Rows of single calls of the layers, as tests: texts, and what the call says of each. There is no code of its own here.
 #![tactic(auto)]
 
 #[cfg(test)]
+mod colors;
+#[cfg(test)]
+mod cycles;
+#[cfg(test)]
 mod matches;
+#[cfg(test)]
+mod names;
+#[cfg(test)]
+mod numbers;
+#[cfg(test)]
+mod references;
+#[cfg(test)]
+mod syntaxes;
+#[cfg(test)]
+mod tokens;

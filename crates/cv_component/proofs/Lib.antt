@@ -5,6 +5,9 @@ pub mod Pieces
 pub mod ItemSteps
 pub mod Spelt
 pub mod Sharing
+pub mod TopLevels
+pub mod Closers
+pub mod Depths
 pub mod RuleSteps
 pub mod Splits
 pub mod Ends

@@ -5,6 +5,7 @@ pub mod Few
 pub mod TopLevel
 pub mod Items
 pub mod Shared
+pub mod TopLevels
 pub mod Stops
 pub mod Rules
 pub mod Parts

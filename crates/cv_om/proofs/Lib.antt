@@ -1,6 +1,15 @@
+pub mod Answered
+pub mod Chosen
+pub mod Codes
+pub mod Collections
 pub mod Joined
 pub mod Loops
 pub mod Powers
+pub mod FoundTerms
+pub mod Refusals
+pub mod Sames
+pub mod SumValues
+pub mod Texts
 pub mod Types
 pub mod UnitFactors
 pub mod UnitMaps

@@ -5,14 +5,13 @@ use Rattle.std.specs.Ordering.{int_eq}
 use Rattle.std.proofs.Common.{◌≡◌, ℕ, ◌+◌, ◌<◌, ◌≤◌, get_or, take, drop, refl, sym, ◌∙◌, ap, ap₂, append-nil}
 use Rattle.std.proofs.lemmas.List.{drop_all}
 use Rattle.std.proofs.lemmas.List.Folds.{list_all-append}
-use Rattle.std.proofs.lemmas.Grind.{flat_map-append}
 use Rattle.cv_calc.specs.declared.unit.Unit.{Unit}
 use Rattle.cv_calc.specs.Types.{power_fits, power_of}
 use Rattle.cv_calc.specs.Unit.{same_unit}
 use Rattle.cv_om.specs.declared.error.OmErr.{OmErr}
 use Rattle.cv_om.specs.declared.error.OmErr.TheVariants.{Range}
 use Rattle.cv_om.specs.UnitMap.{Powers, all_units, power_in, entry, powers_listed, power_sum, product_powers, negative_entry, all_entries, within_bounds, inverse_powers}
-use Rattle.cv_om.proofs.Loops.{front_at, taken_at, split_at}
+use Rattle.cv_om.proofs.Loops.{front_at, taken_at, split_at, flat_next}
 
 -- ---- the power of a unit
 
@@ -31,7 +30,7 @@ power_none ps i u h = ap (λ qs. power_in qs u) (sym (drop_all i ps h))
 
 -- ---- tests of all
 
-and_false : (b : Bool) → (b && false) ≡ false
+pub and_false : (b : Bool) → (b && false) ≡ false
 and_false true = refl
 and_false false = refl
 
@@ -46,8 +45,7 @@ all_fails f xs i d x h is e =
 -- ---- products
 
 pub listed_next : (f : Unit → ℤ) (us : List Unit) (i : ℕ) (d u : Unit) → i < length us → u ≡ get_or us i d → powers_listed f (take i us) ++ entry u (f u) ≡ powers_listed f (take (i + 1) us)
-listed_next f us i d u h is =
-    ap (λ ps. powers_listed f (take i us) ++ ps) (sym (append-nil (entry u (f u)))) ∙ sym (flat_map-append (λ u. entry u (f u)) (take i us) (u ∷ [])) ∙ ap (powers_listed f) (sym (taken_at us i d u h is))
+listed_next f us i d u h is = flat_next (λ u. entry u (f u)) us i d u h is
 
 pub product_is : (a b ps : Powers) → list_all (λ u. power_fits (power_sum a b u)) all_units ≡ true → ps ≡ powers_listed (power_sum a b) all_units → product_powers a b ≡ Ok ps
 unfolding product_powers

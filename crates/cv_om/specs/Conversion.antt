@@ -1,8 +1,8 @@
 -- Conversion to a unit and to a sum of units (CSS Typed OM 1, "Common Numeric Operations, and the CSSNumericValue Superclass": `to()` and
 -- `toSum()`). The refusals for types go first, and then each converted value and each sum that is formed has to be in bounds, which is
 -- this project's own.
-use Rattle.std.specs.Prelude.{Bool, true, false, not, pos, List, [], ◌∷◌, map, fold, filter, Result, Ok, Err, Option, Some, None, if◌then◌else◌}
-use Rattle.std.specs.List.{flat_map, list_all}
+use Rattle.std.specs.Prelude.{ℕ, ◌==◌, Bool, true, false, pos, List, [], ◌∷◌, map, fold, filter, position, Result, Ok, Err, Option, Some, None, if◌then◌else◌}
+use Rattle.std.specs.List.{flat_map, list_all, enumerate_from}
 use Rattle.std.specs.Ordering.{int_eq}
 use Rattle.cv_spec_ratio.specs.Ratio.{Ratio, zero_ratio, add}
 use Rattle.cv_frac.specs.Bounded.{bounded, quotient_of}
@@ -21,7 +21,7 @@ use Rattle.cv_om.specs.SumValue.{Row, one_item, sum_value}
 use Rattle.cv_om.specs.Arithmetic.{typed}
 use Rattle.cv_calc.specs.Unit.{same_unit}
 
--- an item converts to a unit that has its unit map
+-- an item converts to a unit whose own unit map is that of the item
 abbrev pub converts : Unit → SumItem → Bool
 converts u s = same_powers s.units (unit_powers u)
 
@@ -40,37 +40,32 @@ converted_row u row = and_then (one_item row) (converted_item u)
 unfoldable pub converted : Unit → Calc → Result Calc OmErr
 converted u c = and_then (sum_value c) (converted_row u)
 
--- ---- to some units: each collects the items that convert to it and that no unit before it has collected
+-- ---- to some units: each item goes to the first of them to which it converts
 
-unfoldable pub left_over : List Unit → Row → Row
-left_over [] row = row
-left_over (u ∷ us) row = left_over us (filter (λ s. not (converts u s)) row)
+abbrev pub placed_value : Ratio → Option ℕ → Result (ℕ × Ratio) OmErr
+placed_value v None = Err BadType
+placed_value v (Some i) = Ok (i, v)
 
--- the sum of the collected items in the unit, from the left
-abbrev pub collected_next : Unit → Result Ratio OmErr → SumItem → Result Ratio OmErr
-collected_next u r s = and_then r (λ v. and_then (in_unit u s) (λ w. in_range (bounded (add v w))))
+-- the place of the unit that collects the item, with the item's value
+abbrev pub placed_item : List Unit → SumItem → Result (ℕ × Ratio) OmErr
+placed_item us s = placed_value s.value (position (λ u. converts u s) us)
 
-abbrev pub collected : Unit → Row → Result Calc OmErr
-collected u row = answer_map (λ v. Num v u) (fold (collected_next u) (Ok zero_ratio) (filter (converts u) row))
+-- the values that the unit at a place collects are added in the unit, from the left
+abbrev pub collected_next : ℕ → Unit → Result Ratio OmErr → ℕ × Ratio → Result Ratio OmErr
+collected_next i u r p = if p.0 == i then and_then r (λ v. and_then (in_range (quotient_of p.1 (sum_factor u))) (λ w. in_range (bounded (add v w)))) else r
 
-unfoldable pub collections : List Unit → Row → List (Result Calc OmErr)
-collections [] row = []
-collections (u ∷ us) row = collected u row ∷ collections us (filter (λ s. not (converts u s)) row)
-
--- nothing is left
-abbrev pub is_none_left : Row → Bool
-is_none_left [] = true
-is_none_left (s ∷ ss) = false
+abbrev pub collected : List (ℕ × Ratio) → ℕ × Unit → Result Calc OmErr
+collected ps e = answer_map (λ v. Num v e.1) (fold (collected_next e.0 e.1) (Ok zero_ratio) ps)
 
 -- the sum of some units has a type
 abbrev pub has_sum_type : List Unit → Bool
 has_sum_type us = has_type (type_of (Sum (map (Num zero_ratio) us)))
 
+abbrev pub collected_sum : List Unit → List (ℕ × Ratio) → Result Calc OmErr
+collected_sum us ps = if has_sum_type us then answer_map Sum (all_of (map (collected ps) (enumerate_from 0 us))) else Err BadType
+
 abbrev pub units_row : List Unit → Row → Result Calc OmErr
-units_row us row =
-    if is_none_left (left_over us row) then
-    (if has_sum_type us then answer_map Sum (all_of (collections us row)) else Err BadType)
-    else Err BadType
+units_row us row = and_then (all_of (map (placed_item us) row)) (collected_sum us)
 
 -- ---- to the units that the items have
 

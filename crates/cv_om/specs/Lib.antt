@@ -1,8 +1,11 @@
 pub mod Arithmetic
+pub mod Choice
+pub mod Coded
 pub mod Conversion
 pub mod Numeric
 pub mod Parsed
 pub mod Refusal
+pub mod Same
 pub mod SumValue
 pub mod Text
 pub mod UnitMap

@@ -37,11 +37,17 @@ abbrev pub function_answer : Result Calc CalcErr → Result Calc OmErr
 function_answer (Ok c) = Ok c
 function_answer (Err e) = Err (refusal_of e)
 
-unfoldable pub parsed_tokens : List Token → Result Calc OmErr
-parsed_tokens (Number n ∷ []) = single n unit.Number
-parsed_tokens (Percentage n ∷ []) = single n unit.Percent
-parsed_tokens (Dimension n name ∷ []) = measured n (unit_with_name name)
-parsed_tokens ts = function_answer (answer ts)
+-- what a token alone is read as; the second argument is what it is as a list
+abbrev pub lone : Token → Result Calc OmErr → Result Calc OmErr
+lone (Number n) other = single n unit.Number
+lone (Percentage n) other = single n unit.Percent
+lone (Dimension n name) other = measured n (unit_with_name name)
+lone t other = other
+
+abbrev pub parsed_tokens : List Token → Result Calc OmErr
+parsed_tokens [] = function_answer (answer [])
+parsed_tokens (t ∷ []) = lone t (function_answer (answer (t ∷ [])))
+parsed_tokens (t ∷ u ∷ ts) = function_answer (answer (t ∷ u ∷ ts))
 
 abbrev pub parsed : List ℕ → Result Calc OmErr
 parsed text = parsed_tokens (tokens text)

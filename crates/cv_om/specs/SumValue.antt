@@ -34,7 +34,7 @@ added_item s t = answer_map (λ v. item v s.units) (in_range (bounded (add s.val
 
 unfoldable pub with_item : Row → SumItem → Result Row OmErr
 with_item [] t = Ok (t ∷ [])
-with_item (s ∷ ss) t = if same_powers s.units t.units then answer_map (λ sum. sum ∷ ss) (added_item s t) else answer_map (λ rest. s ∷ rest) (with_item ss t)
+with_item (s ∷ ss) t = if same_powers t.units s.units then answer_map (λ sum. sum ∷ ss) (added_item s t) else answer_map (λ rest. s ∷ rest) (with_item ss t)
 
 abbrev pub with_next : Result Row OmErr → SumItem → Result Row OmErr
 with_next r t = and_then r (λ row. with_item row t)
@@ -94,8 +94,11 @@ chosen_row f [] = Err BadType
 chosen_row f (r ∷ rs) = row_of (fold (chosen_next f) (one_item r) rs)
 
 -- the greater of the first and of the lesser of the others
+abbrev pub limited_item : Row → Row → Row → Result SumItem OmErr
+limited_item low middle high = and_then (one_item low) (λ l. and_then (chosen_next lesser (one_item middle) high) (chosen_item greater l))
+
 abbrev pub limited_row : Row → Row → Row → Result Row OmErr
-limited_row low middle high = row_of (and_then (one_item low) (λ l. and_then (chosen_next lesser (one_item middle) high) (chosen_item greater l)))
+limited_row low middle high = row_of (limited_item low middle high)
 
 -- ---- a calculation
 

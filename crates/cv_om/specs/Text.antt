@@ -80,13 +80,10 @@ call_front place name = prefix place ++ tokens.Function name ∷ []
 abbrev pub Written : Type 0
 Written = Place → List Token
 
-unfoldable pub further_tokens : Place → List Written → List Token
-further_tokens further [] = []
-further_tokens further (w ∷ ws) = w further ++ further_tokens further ws
-
-abbrev pub row_tokens : Place → Place → List Written → List Token
+-- the first stands at a place of its own
+unfoldable pub row_tokens : Place → Place → List Written → List Token
 row_tokens first further [] = []
-row_tokens first further (w ∷ ws) = w first ++ further_tokens further ws
+row_tokens first further (w ∷ ws) = w first ++ row_tokens further further ws
 
 abbrev pub line_tokens : Place → List Written → List Token
 line_tokens further ws = row_tokens Operand further ws

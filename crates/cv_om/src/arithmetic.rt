@@ -113,7 +113,7 @@ fn whole_number(how: Joining, front: &[Calc], last: &Calc) -> Result<Frac, OmErr
 }
 
 /// A calculation that has a type.
-fn typed(c: Calc) -> Result<Calc, OmErr>
+pub(crate) fn typed(c: Calc) -> Result<Calc, OmErr>
     ensures answer { result ≡ typed_of c }
     ensures has_type { IfOk result (λ d. has_type (kind_of d) ≡ true) }
 {

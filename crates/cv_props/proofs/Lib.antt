@@ -1,2 +1,12 @@
 mod Entries
 mod Keeping
+mod Numbered
+mod Items
+mod Split
+mod Said
+mod Naming
+mod Places
+mod Registering
+mod Syntaxes
+mod Universal
+mod Few

@@ -1,4 +1,8 @@
 pub mod Winners
 pub mod WinnerLaws
-pub mod Declaring
 pub mod Registered
+pub mod Registration
+pub mod Kept
+pub mod Declaring
+pub mod Reading
+pub mod Sheets

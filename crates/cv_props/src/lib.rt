@@ -2,9 +2,15 @@
 #![tactic(auto)]
 
 mod decls;
+mod descriptors;
 mod entry;
+mod initial;
 mod laws;
+mod note;
+mod refusal;
+mod registration;
 mod registry;
+mod style;
 
 pub use cv_valuation::{
     Cause, Computed, Key, Outcome, Property, Valuation, key_text, outcome_text,
@@ -13,4 +19,5 @@ pub use cv_valuation::{
 pub use decls::{Decl, Decls};
 pub use entry::Entry;
 pub use laws::winners_are_by_key;
+pub use note::{Note, NotePlace, Why};
 pub use registry::Registry;

@@ -5,10 +5,20 @@ ghost use Rattle.std.specs.List.{IsDistinct};
 ghost use Rattle.std.specs.Map.{keys_of};
 ghost use Rattle.std.specs.Option.{option_copied};
 ghost use Rattle.indexmap.specs.IndexMap.{insert_entry};
+ghost use Rattle.cv_spec_text.specs.Splits.{IsSpelt};
+ghost use Rattle.cv_component.specs.Rules.{rules};
+ghost use Rattle.cv_props.specs.Reading.{IsSpeltRule};
 ghost use Rattle.cv_props.specs.Registered.{AreEntries, IsEntry, IsRegistered, entry_of};
+ghost use Rattle.cv_props.specs.Registration.{registration, viewport};
+ghost use Rattle.cv_props.specs.Sheets.{ignored, notes_on_rules, registered, registered_names, with_registration};
 
 use crate::entry::Entry;
-use cv_spec_text::Name;
+use crate::note::{Note, NotePlace};
+use crate::refusal::Refusal;
+use crate::registration::{read_rule, viewport};
+use cv_calc::Context;
+use cv_component::{Rule, rules};
+use cv_spec_text::{Name, Token};
 use indexmap::IndexMap;
 use std::alloc::{AllocError, Global};
 use std::marker::Model;
@@ -21,21 +31,41 @@ pub struct Registry {
 }
 
 impl Model for Registry {
-    ghost use Rattle.cv_props.specs.Registered.{AreEntries, Registered};
+    ghost use Rattle.std.specs.Prelude.{All};
+    ghost use Rattle.cv_props.specs.Registered.{IsRegistered, Registered};
 
     ghost Value = { Registered };
 
+    ghost use Rattle.std.specs.Coded.{coded_list, coded×, coded_ℕ};
     ghost use Rattle.cv_props.specs.contracts.entry.Entry as of_entry;
-    ghost use Rattle.std.specs.Coded.{codes};
 
-    ghost coded = { Prim.hlevel (codes, of_entry.the_row.coded) };
+    ghost coded = { coded_list (coded× (coded_list coded_ℕ) of_entry.the_row.coded) };
 
     ghost view = { λ registry. registry.entries.entries };
 
-    ghost invariant = { λ registry. AreEntries registry.entries.entries };
+    ghost invariant = { λ registry. All IsRegistered registry.entries.entries };
 }
 
 impl Registry {
+    /// What the sheet registers in a viewport of this size in px, and a note on each rule that is ignored, in order. The last valid rule
+    /// of a name counts.
+    pub fn of_sheet(
+        alloc: Global,
+        tokens: &[Token],
+        width: u32,
+        height: u32,
+    ) -> Result<(Registry, Vec<Note>), AllocError>
+        requires spelt { All IsSpelt tokens.now }
+        requires few { length tokens.now < 4294967288 }
+        ensures entries { IfOk result (λ sheet. (name : List ℕ) → entry_of sheet.0 name ≡ registered (viewport width height) (rules tokens.now) name) }
+        ensures order { IfOk result (λ sheet. keys_of sheet.0 ≡ registered_names (viewport width height) (rules tokens.now)) }
+        ensures notes { IfOk result (λ sheet. sheet.1.items ≡ notes_on_rules (viewport width height) (rules tokens.now)) }
+        ensures valid { IfOk result (λ sheet. AreEntries sheet.0) }
+    {
+        let all = rules(alloc, tokens)?;
+        of_rules(alloc, &viewport(width, height), &all)
+    }
+
     /// What is registered of the name, if it is registered.
     pub fn get(&self, name: &Name) -> Option<&Entry>
         ensures entry { option_copied result ≡ entry_of self.now name.now }
@@ -57,7 +87,80 @@ impl Registry {
     pub fn at(&self, place: usize) -> (&Name, &Entry)
         requires { place < length self.now }
         ensures entry { slice_get self.now place ≡ Some (result.0.now, result.1.now) }
+        ensures kept { IsEntry result.0.now result.1.now }
     {
         self.entries.get_index(place).unwrap()
+    }
+
+    /// The same registry again.
+    pub fn copy(&self) -> Result<Self, AllocError>
+        ensures { IfOk result (λ registry. registry ≡ self.now) }
+    {
+        Ok(Registry {
+            entries: copied(&self.entries)?,
+        })
+    }
+}
+
+fn copied(entries: &IndexMap<Name, Entry>) -> Result<IndexMap<Name, Entry>, AllocError>
+    ensures { IfOk result (λ all. all.entries ≡ entries.now.entries) }
+{
+    let mut all = IndexMap::new(*entries.allocator());
+    for (name, entry) in entries.iter() {
+        add_copy(&mut all, name, entry)?;
+    }
+    Ok(all)
+}
+
+fn add_copy(all: &mut IndexMap<Name, Entry>, name: &Name, entry: &Entry) -> Result<(), AllocError>
+    ensures { OnOk result (all.new.entries ≡ insert_entry bytes_eq all.old.entries name.now entry.now) }
+{
+    let alloc = *all.allocator();
+    all.insert(name.copy()?, entry.copy(alloc)?)?;
+    Ok(())
+}
+
+// What the rules register, and a note on each that is ignored.
+fn of_rules(alloc: Global, x: &Context, all: &[Rule]) -> Result<(Registry, Vec<Note>), AllocError>
+    requires spelt { All IsSpeltRule all.now }
+    requires few { length all.now < 4294967288 }
+    ensures entries { IfOk result (λ sheet. (name : List ℕ) → entry_of sheet.0 name ≡ registered x.now all.now name) }
+    ensures order { IfOk result (λ sheet. keys_of sheet.0 ≡ registered_names x.now all.now) }
+    ensures notes { IfOk result (λ sheet. sheet.1.items ≡ notes_on_rules x.now all.now) }
+    ensures valid { IfOk result (λ sheet. AreEntries sheet.0) }
+{
+    let mut entries = IndexMap::new(alloc);
+    let mut notes = Vec::new(alloc);
+    for (number, rule) in all.iter().enumerate() {
+        add_rule(alloc, x, number as u32, rule, &mut entries, &mut notes)?;
+    }
+    Ok((Registry { entries }, notes))
+}
+
+// Keeps what the rule registers, or notes why it is ignored.
+fn add_rule(
+    alloc: Global,
+    x: &Context,
+    number: u32,
+    rule: &Rule,
+    entries: &mut IndexMap<Name, Entry>,
+    notes: &mut Vec<Note>,
+) -> Result<(), AllocError>
+    requires { IsSpeltRule rule.now }
+    ensures entries { OnOk result (entries.new.entries ≡ with_registration entries.old.entries (registration x.now rule.now)) }
+    ensures kept { All IsRegistered entries.old.entries → OnOk result (All IsRegistered entries.new.entries) }
+    ensures notes { OnOk result (notes.new.items ≡ notes.old.items ++ ignored number (registration x.now rule.now)) }
+{
+    match read_rule(alloc, x, rule) {
+        Ok((name, entry)) => {
+            entries.insert(name, entry)?;
+            Ok(())
+        }
+        Err(Refusal::Ignored(why)) => {
+            let place = NotePlace::Rule(number);
+            notes.push(Note { place, why })?;
+            Ok(())
+        }
+        Err(Refusal::Memory) => Err(AllocError),
     }
 }

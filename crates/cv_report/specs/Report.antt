@@ -3,7 +3,7 @@ use Rattle.std.specs.Prelude.{ℕ, List, [], ◌∷◌, ◌++◌, codes, decimal
 use Rattle.std.specs.List.{flat_map, enumerate_from}
 use Rattle.cv_spec_text.specs.Characters.{line_feed, space}
 use Rattle.cv_valuation.specs.declared.computed.Cause.{Cause}
-use Rattle.cv_valuation.specs.declared.computed.Cause.TheVariants.{Cycle, Missing, Limit}
+use Rattle.cv_valuation.specs.declared.computed.Cause.TheVariants.{Cycle, Missing, Limit, Mismatch}
 use Rattle.cv_valuation.specs.declared.computed.Computed.{Computed}
 use Rattle.cv_valuation.specs.declared.key.Key.{Key}
 use Rattle.cv_props.specs.declared.note.Note.{Note}
@@ -45,6 +45,7 @@ abbrev pub cause_text : Cause → List ℕ
 cause_text Cycle = codes "cycle"
 cause_text (Missing name) = codes "missing"
 cause_text (Limit tokens) = codes "limit"
+cause_text Mismatch = codes "mismatch"
 
 -- an element and a key: `0 --a `
 abbrev pub subject : ℕ → Key → List ℕ

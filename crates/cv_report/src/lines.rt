@@ -120,6 +120,7 @@ fn cause_text(cause: &Cause) -> &'static str
         Cause::Cycle => "cycle",
         Cause::Missing(_) => "missing",
         Cause::Limit(_) => "limit",
+        Cause::Mismatch => "mismatch",
     }
 }
 

@@ -1,73 +1,144 @@
-//! Streams that fail in mid-stream.
+//! Runs over streams in memory that fail in mid-stream.
 
-use crate::running::{COMPUTE, strings};
-use cv_io::{MemSink, MemSource, SureSink, SureSource};
-use cv_run::{Status, run};
+use cv_io::{MemSink, MemSource, SureSink};
+use cv_run::run;
 use std::alloc::{AllocError, Global};
 use std::test::Fail;
 
-static DOCUMENT: &str = r#"{"elements":[{"parent":null,"style":"--a:  1px "}]}"#;
+const DOCUMENT: &str = r#"{"elements":[{"parent":null,"style":"--a:  1px "}]}"#;
 
-// A run whose reads and writes of these numbers fail: the status, and what `out` and `err` took.
-fn failing(
-    alloc: Global,
-    reads: &[u64],
-    writes: &[u64],
-) -> Result<(Status, MemSink, SureSink), AllocError> {
-    let words = strings(alloc, &COMPUTE)?;
-    let document = DOCUMENT.as_bytes().to_vec(alloc)?;
-    let mut src = MemSource::new(document, 10, reads.to_vec(alloc)?);
-    let mut out = MemSink::new(alloc, 7, writes.to_vec(alloc)?);
+const NOTES: &str = r#"{"sheet":"a {}","elements":[{"parent":null,"style":"--a: 1; foo: 2"}]}"#;
+
+// Streams and what they take: the reads and writes whose numbers stand here fail.
+struct Row {
+    document: &'static str,
+    word: &'static str,
+    reads: &'static [u64],
+    step: usize,
+    writes: &'static [u64],
+    code: u8,
+    out: &'static str,
+    err: &'static str,
+}
+
+static ROWS: [Row; 8] = [
+    Row {
+        document: DOCUMENT,
+        word: "compute",
+        reads: &[],
+        step: 7,
+        writes: &[],
+        code: 0,
+        out: "0 --a = 1px\n",
+        err: "",
+    },
+    Row {
+        document: DOCUMENT,
+        word: "compute",
+        reads: &[1],
+        step: 7,
+        writes: &[],
+        code: 3,
+        out: "",
+        err: "cssvars: read fault\n",
+    },
+    Row {
+        document: DOCUMENT,
+        word: "compute",
+        reads: &[0],
+        step: 7,
+        writes: &[],
+        code: 3,
+        out: "",
+        err: "cssvars: read fault\n",
+    },
+    Row {
+        document: DOCUMENT,
+        word: "compute",
+        reads: &[],
+        step: 7,
+        writes: &[1],
+        code: 7,
+        out: "0 --a =",
+        err: "cssvars: write fault\n",
+    },
+    Row {
+        document: DOCUMENT,
+        word: "compute",
+        reads: &[],
+        step: 7,
+        writes: &[0],
+        code: 7,
+        out: "",
+        err: "cssvars: write fault\n",
+    },
+    // Each line goes out as one piece.
+    Row {
+        document: NOTES,
+        word: "compute",
+        reads: &[],
+        step: 1000,
+        writes: &[1],
+        code: 7,
+        out: "# sheet rule 0: skipped\n",
+        err: "cssvars: write fault\n",
+    },
+    Row {
+        document: NOTES,
+        word: "compute",
+        reads: &[],
+        step: 1000,
+        writes: &[2],
+        code: 7,
+        out: "# sheet rule 0: skipped\n# element 0 declaration 1: unknown property\n",
+        err: "cssvars: write fault\n",
+    },
+    // Words are refused before anything is read.
+    Row {
+        document: DOCUMENT,
+        word: "draw",
+        reads: &[0],
+        step: 7,
+        writes: &[0],
+        code: 2,
+        out: "",
+        err: "cssvars: bad usage\n",
+    },
+];
+
+fn is_kept(alloc: Global, row: &Row) -> Result<bool, AllocError> {
+    let words = vec![in alloc; String::from_str(alloc, row.word)?]?;
+    let document = row.document.as_bytes().to_vec(alloc)?;
+    let mut src = MemSource::new(document, 10, row.reads.to_vec(alloc)?);
+    let mut out = MemSink::new(alloc, row.step.max(1), row.writes.to_vec(alloc)?);
     let mut err = SureSink::new(alloc);
-    let status = run(alloc, &words, &mut src, &mut out, &mut err);
-    Ok((status, out, err))
+    let code = run(alloc, &words, &mut src, &mut out, &mut err).code();
+    Ok(code == row.code && out.taken() == row.out.as_bytes() && err.taken() == row.err.as_bytes())
 }
 
 #[test]
-fn a_read_fails(rt: HostRuntime) -> Result<(), Fail> {
-    let (status, out, err) = failing(rt.alloc(), &[1], &[])?;
-    assert_eq!(rt; status.code(), 3);
-    assert_eq!(rt; out.taken(), b"".as_slice());
-    assert_eq!(rt; err.taken(), b"cssvars: read fault\n".as_slice());
+fn streams_fail(rt: HostRuntime) -> Result<(), Fail> {
+    for (number, row) in ROWS.iter().enumerate() {
+        let kept = is_kept(rt.alloc(), row)?;
+        assert!(rt; kept, "row {number}");
+    }
     Ok(())
 }
 
-#[test]
-fn a_write_fails(rt: HostRuntime) -> Result<(), Fail> {
-    let (status, out, err) = failing(rt.alloc(), &[], &[1])?;
-    assert_eq!(rt; status.code(), 7);
-    assert_eq!(rt; out.taken(), b"0 --a =".as_slice());
-    assert_eq!(rt; err.taken(), b"cssvars: write fault\n".as_slice());
-    Ok(())
-}
-
-#[test]
-fn nothing_fails(rt: HostRuntime) -> Result<(), Fail> {
-    let (status, out, err) = failing(rt.alloc(), &[], &[])?;
-    assert!(rt; status == Status::Done);
-    assert_eq!(rt; out.taken(), b"0 --a = 1px\n".as_slice());
-    assert_eq!(rt; err.taken(), b"".as_slice());
-    Ok(())
-}
-
-// A run whose first write to `err` fails: the exit number, and what `out` took.
-fn failing_err(alloc: Global, words: &[&str]) -> Result<(u8, SureSink), AllocError> {
-    let words = strings(alloc, words)?;
-    let document = DOCUMENT.as_bytes().to_vec(alloc)?;
-    let mut src = SureSource::new(document, 4096);
+// A run whose first write to `err` fails: whether it ends with this number and `out` took this.
+fn is_told(alloc: Global, word: &str, code: u8, report: &str) -> Result<bool, AllocError> {
+    let words = vec![in alloc; String::from_str(alloc, word)?]?;
+    let mut src = MemSource::new(DOCUMENT.as_bytes().to_vec(alloc)?, 4096, Vec::new(alloc));
     let mut out = SureSink::new(alloc);
     let mut err = MemSink::new(alloc, 3, vec![in alloc; 0]?);
-    let status = run(alloc, &words, &mut src, &mut out, &mut err);
-    Ok((status.code(), out))
+    let ended = run(alloc, &words, &mut src, &mut out, &mut err).code();
+    Ok(ended == code && out.taken() == report.as_bytes())
 }
 
 #[test]
 fn a_fault_of_the_error_stream_changes_no_status(rt: HostRuntime) -> Result<(), Fail> {
-    let (code, out) = failing_err(rt.alloc(), &COMPUTE)?;
-    assert_eq!(rt; code, 0);
-    assert_eq!(rt; out.taken(), b"0 --a = 1px\n".as_slice());
-    let (code, out) = failing_err(rt.alloc(), &[])?;
-    assert_eq!(rt; code, 2);
-    assert_eq!(rt; out.taken(), b"".as_slice());
+    let done = is_told(rt.alloc(), "compute", 0, "0 --a = 1px\n")?;
+    let refused = is_told(rt.alloc(), "draw", 2, "")?;
+    assert!(rt; done && refused);
     Ok(())
 }

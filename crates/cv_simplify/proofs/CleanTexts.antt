@@ -18,7 +18,7 @@ use Rattle.cv_calc.specs.Tree.{Each, by_cases, fold-Num, fold-Sum, fold-Product,
 use Rattle.cv_tokser.specs.Clean.{is_bad, begins_white, is_url_function, IsClean}
 use Rattle.cv_simplify.specs.declared.place.Place.{Place}
 use Rattle.cv_simplify.specs.declared.place.Place.TheVariants.{Operand, Whole, Added, Multiplied, Argument}
-use Rattle.cv_simplify.specs.Text.{closing, operator, call, numeric, has_decimal, decimal_tokens, quotient_tokens, bracketed, number_tokens, number_alone, prefix, placed, number_added, number_placed, negative_placed, inverse_placed, Written, Line, no_line, with_child, with_rank, with_ranked, ranked, line_of, arguments_of, written, written_step, calc_text_as, calc_text}
+use Rattle.cv_simplify.specs.Text.{closing, operator, call, numeric, has_decimal, decimal_tokens, quotient_tokens, bracketed, number_tokens, number_alone, prefix, placed, number_added, number_placed, negative_placed, inverse_placed, Written, Line, no_line, with_child, with_rank, with_ranked, ranked, line_of, arguments_of, written, written_step, calc_text_as, calc_text, ranks}
 
 -- ---- lists side by side
 
@@ -258,7 +258,7 @@ module _ (further : Place) (suits : (ts : List Token) → Suits further ts → I
   ranks_line ws (suc n) k = rank_line ws (ranked further ws n) n (ranks_line ws n k) k
 
   line_inner : (ws : List Written) → EachPlaces ws → IsInner (line_of further ws)
-  line_inner ws k = (ranks_line ws 31 k).inner
+  line_inner ws k = (ranks_line ws ranks k).inner
 
 argument_tidy : (w : Written) → AllPlaces w → (b : Bool) → IsTidy (w.at_place (if b then Argument else Whole)) × (begins_white (w.at_place (if b then Argument else Whole)) ≡ false)
 argument_tidy w k true = k Argument

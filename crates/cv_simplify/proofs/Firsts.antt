@@ -14,7 +14,7 @@ use Rattle.cv_simplify.specs.declared.joining.Joining.{Joining}
 use Rattle.cv_simplify.specs.declared.joining.Joined.TheVariants.{Apart, Outside, One}
 use Rattle.cv_simplify.specs.Checked.{may_join, number_joined, one_number, joined_as_within, joined_within, with_term, term_first}
 use Rattle.cv_simplify.specs.Firsts.{unit_as, is_unit, is_in, first_in, HoldsFirsts, KeepsFirsts}
-use Rattle.cv_simplify.specs.Text.{unit_rank}
+use Rattle.cv_simplify.specs.Text.{unit_rank, last_rank}
 use Rattle.cv_simplify.proofs.Rows.{passed, passed-zero, passed-set, passed-outside, option_cons}
 use Rattle.cv_simplify.proofs.UnitRanks.{same_rank, same_self, rank_below}
 
@@ -43,9 +43,9 @@ first_push u (x ∷ xs) c = go (is_in u x) (first_push u xs c)
     go false more = ap (option_map suc) more ∙ or_last_suc (first_in u xs) (is_in u c) (length xs)
 
 -- no number stands in no row
-pub firsts_none : HoldsFirsts [] (replicate 30 None)
+pub firsts_none : HoldsFirsts [] (replicate last_rank None)
 unfolding first_in
-firsts_none = (refl, λ u. go 30 (unit_rank u))
+firsts_none = (refl, λ u. go last_rank (unit_rank u))
   where
     no_place : Option ℕ
     no_place = None

@@ -4,6 +4,7 @@ pub mod Bounds
 pub mod Canonical
 pub mod CleanTexts
 pub mod Divisors
+pub mod Figured
 pub mod Firsts
 pub mod Folds
 pub mod InRange

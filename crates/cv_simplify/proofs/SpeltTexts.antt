@@ -24,7 +24,7 @@ use Rattle.cv_calc.specs.Tree.{Each, by_cases, fold-Num, fold-Sum, fold-Product,
 use Rattle.cv_tokser.proofs.WellFormed.{is_nameable, AreAll, IsName, IsSpelling, IsDelimiter}
 use Rattle.cv_simplify.specs.declared.place.Place.{Place}
 use Rattle.cv_simplify.specs.declared.place.Place.TheVariants.{Operand, Whole, Added, Multiplied, Argument}
-use Rattle.cv_simplify.specs.Text.{closing, operator, call, numeric, has_decimal_as, has_decimal, decimal_tokens, quotient_tokens, bracketed, number_tokens, number_alone, prefix, has_brackets, placed, number_added, number_placed, negative_placed, inverse_placed, Written, Line, no_line, with_child, with_rank, with_ranked, ranked, line_of, arguments_of, written, written_step, calc_text_as, calc_text}
+use Rattle.cv_simplify.specs.Text.{closing, operator, call, numeric, has_decimal_as, has_decimal, decimal_tokens, quotient_tokens, bracketed, number_tokens, number_alone, prefix, has_brackets, placed, number_added, number_placed, negative_placed, inverse_placed, Written, Line, no_line, with_child, with_rank, with_ranked, ranked, line_of, arguments_of, written, written_step, calc_text_as, calc_text, ranks}
 use Rattle.cv_simplify.proofs.Spelt.{token_spelt, decimal_digits, decimal_some, zeros_digits, digits_append, of_digits, of_point, IsMantissa, positive, negative}
 
 -- ---- lists
@@ -212,7 +212,7 @@ ranks_spelt further ws zero k = tt
 ranks_spelt further ws (suc n) k = rank_spelt further ws (ranked further ws n) n (ranks_spelt further ws n k) k
 
 line_spelt : (further : Place) (ws : List Written) → EachPlaces ws → AreSpelt (line_of further ws)
-line_spelt further ws k = ranks_spelt further ws 31 k
+line_spelt further ws k = ranks_spelt further ws ranks k
 
 arguments_spelt : (ws : List Written) (l : Line) → AreSpelt l.line → EachPlaces ws → AreSpelt (fold (with_child Whole Argument) l ws).line
 arguments_spelt [] l h k = h

@@ -4,7 +4,7 @@ use Rattle.std.proofs.Common.{◌≡◌, ◌<◌, refl, sym, ◌∙◌, ap, arit
 use Rattle.cv_calc.specs.declared.unit.Unit as units
 use Rattle.cv_calc.specs.declared.unit.Unit.TheVariants.{Number, Percent, Px, Cm, Mm, Q, Inch, Pt, Pc, Em, Rem, Ex, Ch, Ic, Vw, Vh, Vmin, Vmax, Deg, Grad, Turn, S, Ms, Hz, Khz, Dppx, X, Dpi, Dpcm, Fr}
 use Rattle.cv_calc.specs.Unit.{same_unit}
-use Rattle.cv_simplify.specs.Text.{unit_rank}
+use Rattle.cv_simplify.specs.Text.{unit_rank, last_rank}
 
 abbrev ranked_units : List units.Unit
 ranked_units =
@@ -22,6 +22,6 @@ pub same_self : (u : units.Unit) → same_unit u u ≡ true
 same_self Number = refl
 same_self _ = refl
 
-pub rank_below : (u : units.Unit) → unit_rank u < 30
+pub rank_below : (u : units.Unit) → unit_rank u < last_rank
 rank_below Number = omega arith
 rank_below _ = omega arith

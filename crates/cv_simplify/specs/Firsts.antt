@@ -5,7 +5,7 @@ use Rattle.cv_calc.specs.declared.calc.Calc.{Calc}
 use Rattle.cv_calc.specs.declared.calc.Calc.TheOpen.{Calc-F, Num}
 use Rattle.cv_calc.specs.declared.calc.Calc.TheViews.{out-Calc}
 use Rattle.cv_calc.specs.Unit.{same_unit}
-use Rattle.cv_simplify.specs.Text.{unit_rank}
+use Rattle.cv_simplify.specs.Text.{unit_rank, last_rank}
 
 -- the unit of a number
 abbrev pub unit_as : Calc-F Calc → Option units.Unit
@@ -27,7 +27,7 @@ first_in u (c ∷ cs) = if is_in u c then Some zero else option_map suc (first_i
 
 -- by the rank of each unit, the first place at which a number with this unit stands
 abbrev pub HoldsFirsts : List Calc → List (Option ℕ) → Type 0
-HoldsFirsts row firsts = (length firsts ≡ 30) × ((u : units.Unit) → get_or firsts (unit_rank u) None ≡ first_in u row)
+HoldsFirsts row firsts = (length firsts ≡ last_rank) × ((u : units.Unit) → get_or firsts (unit_rank u) None ≡ first_in u row)
 
 -- numbers of each unit stand first where they stood
 abbrev pub KeepsFirsts : List Calc → List Calc → Type 0

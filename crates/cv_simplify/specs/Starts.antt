@@ -3,7 +3,7 @@ use Rattle.std.specs.Prelude.{Bool, true, false, List, [], ◌∷◌, ◌++◌, 
 use Rattle.cv_spec_text.specs.declared.token.Token.{Token}
 use Rattle.cv_spec_text.specs.declared.token.Token.TheVariants as tokens
 use Rattle.cv_simplify.specs.declared.place.Place.{Place}
-use Rattle.cv_simplify.specs.declared.place.Place.TheVariants.{Operand, Whole, Added, Multiplied, Argument}
+use Rattle.cv_simplify.specs.declared.place.Place.TheVariants.{Added, Multiplied}
 use Rattle.cv_simplify.specs.Text.{Line, opening, closing, operator, prefix, has_brackets}
 
 abbrev pub opening_if : Bool → List Token

@@ -101,6 +101,10 @@ unit_rank X = 29
 abbrev pub last_rank : ℕ
 last_rank = 30
 
+-- the number of ranks
+abbrev pub ranks : ℕ
+ranks = suc last_rank
+
 -- ---- a calculation at a place
 
 abbrev pub prefix : Place → List Token
@@ -170,7 +174,7 @@ ranked further ws zero = no_line
 ranked further ws (suc r) = with_ranked further ws (ranked further ws r) r
 
 abbrev pub line_of : Place → List Written → List Token
-line_of further ws = (ranked further ws 31).line
+line_of further ws = (ranked further ws ranks).line
 
 abbrev pub arguments_of : List Written → List Token
 arguments_of ws = (fold (with_child Whole Argument) no_line ws).line

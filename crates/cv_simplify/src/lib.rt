@@ -21,4 +21,5 @@ pub use calculation::{normal, simplify};
 pub use error::SimpErr;
 pub use laws::ranks_are_byte_order;
 pub use parted::Normal;
+pub use std::alloc::AllocError as OutOfMemory;
 pub use text::calc_tokens;

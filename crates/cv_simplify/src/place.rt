@@ -78,12 +78,7 @@ pub(crate) fn write_end(place: Place, out: &mut Vec<Token>) -> Result<(), AllocE
 
 /// Writes a number that is added, or subtracts its negative.
 #[tactic(auto, using(crate::proofs::Appends::appends))]
-fn write_added(
-    alloc: Global,
-    v: Frac,
-    unit: Unit,
-    out: &mut Vec<Token>,
-) -> Result<(), AllocError>
+fn write_added(alloc: Global, v: Frac, unit: Unit, out: &mut Vec<Token>) -> Result<(), AllocError>
     ensures { IfOk result (λ _. out.new.items ≡ out.old.items ++ number_placed Place.Added v unit) }
 {
     if v.top() < 0 {

@@ -1,7 +1,7 @@
 //! The order of units.
 
 ghost use Rattle.std.specs.Prelude.{◌≡◌, ◌<◌};
-ghost use Rattle.cv_simplify.specs.Text.{unit_rank as rank_of_unit};
+ghost use Rattle.cv_simplify.specs.Text.{unit_rank as rank_of_unit, last_rank};
 
 use cv_calc::Unit;
 
@@ -9,12 +9,12 @@ use cv_calc::Unit;
 pub(crate) const LAST_RANK: u32 = 30;
 
 /// The number of ranks.
-pub(crate) const RANKS: u32 = 31;
+pub(crate) const RANKS: u32 = LAST_RANK + 1;
 
 /// The place of a unit in the order of names, behind numbers and percentages.
 pub(crate) fn unit_rank(unit: Unit) -> u32
     ensures rank { result ≡ rank_of_unit unit }
-    ensures below { result < 30 }
+    ensures below { result < last_rank }
 {
     match unit {
         Unit::Number => 0,

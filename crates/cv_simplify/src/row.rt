@@ -6,7 +6,7 @@ ghost use Rattle.cv_simplify.specs.Firsts.{unit_as};
 ghost use Rattle.cv_simplify.specs.Checked.{with_term as row_with_term, with_terms as row_with_terms, with_simple as row_with_simple};
 
 use crate::joining::{Joined, Joining, join};
-use crate::rank::unit_rank;
+use crate::rank::{LAST_RANK, unit_rank};
 use crate::reversed::reversed;
 use cv_calc::{Calc, Unit};
 use sqlite_items::Items;
@@ -65,7 +65,7 @@ impl Row {
     {
         Ok(Row {
             terms: Items::new(alloc),
-            firsts: Items::from_slice(alloc, &[None; 30])?,
+            firsts: Items::from_slice(alloc, &[None; LAST_RANK as usize])?,
         })
     }
 

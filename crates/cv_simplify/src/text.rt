@@ -35,12 +35,7 @@ fn rank(c: &Calc) -> u32
 /// Writes a calculation at a place.
 #[cycle(text)]
 #[tactic(auto, using(crate::proofs::Appends::texts))]
-fn write_part(
-    alloc: Global,
-    place: Place,
-    c: &Calc,
-    out: &mut Vec<Token>,
-) -> Result<(), AllocError>
+fn write_part(alloc: Global, place: Place, c: &Calc, out: &mut Vec<Token>) -> Result<(), AllocError>
     ensures { IfOk result (λ _. out.new.items ≡ out.old.items ++ (written c.now).at_place place) }
 {
     match c {
@@ -139,11 +134,7 @@ fn write_line(
 
 /// Writes the arguments of a function.
 #[cycle(text)]
-fn write_arguments(
-    alloc: Global,
-    children: &[Calc],
-    out: &mut Vec<Token>,
-) -> Result<(), AllocError>
+fn write_arguments(alloc: Global, children: &[Calc], out: &mut Vec<Token>) -> Result<(), AllocError>
     ensures { IfOk result (λ _. out.new.items ≡ out.old.items ++ arguments_of (map written children.now)) }
 {
     let mut started = false;

@@ -80,12 +80,7 @@ pub(crate) fn write_closing(brackets: bool, out: &mut Vec<Token>) -> Result<(), 
 }
 
 /// Writes the decimal of a number.
-fn write_decimal(
-    alloc: Global,
-    v: Frac,
-    unit: Unit,
-    out: &mut Vec<Token>,
-) -> Result<(), AllocError>
+fn write_decimal(alloc: Global, v: Frac, unit: Unit, out: &mut Vec<Token>) -> Result<(), AllocError>
     ensures { IfOk result (λ _. out.new.items ≡ out.old.items ++ decimal_tokens v unit) }
 {
     let mut text = Vec::new(alloc);

@@ -1,2 +1,3 @@
 pub mod NoMatch
 pub mod Alike
+pub mod Lists

@@ -3,3 +3,4 @@ pub mod Matching
 pub mod Text
 pub mod Alike
 pub mod Kept
+pub mod Parts

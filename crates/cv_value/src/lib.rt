@@ -7,6 +7,7 @@ mod laws;
 mod list;
 mod many;
 mod matching;
+mod parts;
 mod single;
 mod text;
 pub mod typed;

@@ -2,13 +2,11 @@
 
 ghost use Rattle.std.specs.Prelude.{◌≡◌, ◌∷◌, ◌++◌, [], map, IfOk};
 ghost use Rattle.cv_numeric.specs.Matched.{both};
-ghost use Rattle.cv_component.specs.Parts.{is_white, is_comma, parts as parts_of, filled, trim};
 ghost use Rattle.cv_value.specs.Matching as matching;
 
 use crate::single::item;
 use crate::typed::Item;
 use cv_calc::Context;
-use cv_component::{comma_parts, has_white_end, spaced_parts};
 use cv_numeric::Matched;
 use cv_spec_text::Token;
 use cv_syntax::Kind;
@@ -36,7 +34,7 @@ fn with_item(
 }
 
 /// Parts, each of which is an item of a kind.
-fn each(
+pub(crate) fn each(
     alloc: Global,
     kind: &Kind,
     parts: &[&[Token]],
@@ -52,36 +50,4 @@ fn each(
         all = with_item(all, item(alloc, kind, part, x)?)?;
     }
     Ok(all)
-}
-
-/// Items with spaces between them.
-pub(crate) fn spaced(
-    alloc: Global,
-    kind: &Kind,
-    tokens: &[Token],
-    x: &Context,
-) -> Result<Matched<Items<Item>>, AllocError>
-    ensures { IfOk result (λ o. o ≡ matching.listed kind.now x.now tokens.now (filled (parts_of is_white tokens.now))) }
-{
-    if has_white_end(alloc, tokens)? {
-        return Ok(Matched::No);
-    }
-    let parts = spaced_parts(alloc, tokens)?;
-    each(alloc, kind, parts.as_slice(), x)
-}
-
-/// Items with commas between them.
-pub(crate) fn with_commas(
-    alloc: Global,
-    kind: &Kind,
-    tokens: &[Token],
-    x: &Context,
-) -> Result<Matched<Items<Item>>, AllocError>
-    ensures { IfOk result (λ o. o ≡ matching.listed kind.now x.now tokens.now (map trim (parts_of is_comma tokens.now))) }
-{
-    if has_white_end(alloc, tokens)? {
-        return Ok(Matched::No);
-    }
-    let parts = comma_parts(alloc, tokens)?;
-    each(alloc, kind, parts.as_slice(), x)
 }

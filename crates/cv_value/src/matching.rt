@@ -6,6 +6,7 @@ ghost use Rattle.cv_value.specs.Matching as matching;
 
 use crate::error::ValueErr;
 use crate::many::component;
+use crate::parts::parts_for;
 use crate::typed::Typed;
 use cv_calc::Context;
 use cv_component::is_too_deep;
@@ -23,8 +24,9 @@ fn first_matching(
 ) -> Result<Matched<Typed>, AllocError>
     ensures { IfOk result (λ o. o ≡ matching.components x.now tokens.now components.now) }
 {
+    let parts = parts_for(alloc, components, tokens)?;
     for next in components {
-        match component(alloc, next, tokens, x)? {
+        match component(alloc, next, tokens, &parts, x)? {
             Matched::No => {}
             other => return Ok(other),
         }

@@ -13,3 +13,4 @@ pub mod GoodLists
 pub mod BlockFronts
 pub mod WhiteEnds
 pub mod NoVar
+pub mod Mentions

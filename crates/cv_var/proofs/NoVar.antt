@@ -18,12 +18,12 @@ use Rattle.cv_var.proofs.BlockFronts.{good_inner}
 use Rattle.cv_var.proofs.WhiteEnds.{good_end}
 
 -- each `var()` of the fallback is a reference
-abbrev FallbackIsGood : Option Reference → Type 0
+abbrev pub FallbackIsGood : Option Reference → Type 0
 FallbackIsGood None = Unit {0}
 FallbackIsGood (Some (name, None)) = Unit {0}
 FallbackIsGood (Some (name, Some fallback)) = IsGood fallback
 
-no_var : (var : Bool) (found : Option Reference) → (var && is_none found) ≡ false → found ≡ None → var ≡ false
+pub no_var : (var : Bool) (found : Option Reference) → (var && is_none found) ≡ false → found ≡ None → var ≡ false
 no_var false found right none = refl
 no_var true None right none = absurd cc
 no_var true (Some r) right none = absurd cc
@@ -92,7 +92,7 @@ module _ (balanced : BlocksAreBalanced) where
   unfolding reference_in
   reference_good inner good = named_good (trim_front inner) (good_front inner good)
 
-  reference_at-good : (t : Token) (rest : List Token) → IsGood rest → FallbackIsGood (reference_at (t ∷ rest))
+  pub reference_at-good : (t : Token) (rest : List Token) → IsGood rest → FallbackIsGood (reference_at (t ∷ rest))
   reference_at-good t rest good =
       if_case FallbackIsGood (begins_var (t ∷ rest)) (λ _. reference_good (inner_to (t ∷ rest) (matching (t ∷ rest) 0)) (good_inner balanced t rest good)) (λ _. tt)
 

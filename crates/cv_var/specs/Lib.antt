@@ -5,3 +5,4 @@ pub mod Places
 pub mod Names
 pub mod Checked
 pub mod Segments
+pub mod Mentions

@@ -3,6 +3,7 @@
 ghost use Rattle.std.specs.Prelude.{List};
 ghost use Rattle.cv_spec_text.specs.declared.token.Token.{Token};
 ghost use Rattle.cv_var.specs.Checked.{IsChecked};
+ghost use Rattle.cv_var.specs.Mentions.{ReferencesAreFound};
 ghost use Rattle.cv_var.specs.References.{PiecesAreRead, HoldNoVar, pieces_of};
 
 use cv_component::blocks_are_balanced;
@@ -15,6 +16,14 @@ pub fn pieces_are_read()
 /// No token of the pieces of a checked list is a `var(`, in a fallback neither: each `var()` is a reference.
 pub fn checked_lists_hold_no_var()
     ensures { (tokens : List Token) → IsChecked tokens → HoldNoVar (pieces_of tokens) }
+{
+    blocks_are_balanced();
+}
+
+/// A checked list refers to a name exactly where the name stands behind a `var(` in it, at any depth (Cascading Variables 1,
+/// "Using Cascading Variables: the var() notation").
+pub fn references_are_found()
+    ensures { (tokens : List Token) → IsChecked tokens → ReferencesAreFound tokens }
 {
     blocks_are_balanced();
 }

@@ -14,7 +14,7 @@ mod value;
 
 pub use declared::{Declared, check};
 pub use flat::Part;
-pub use laws::{checked_lists_hold_no_var, pieces_are_read};
+pub use laws::{checked_lists_hold_no_var, pieces_are_read, references_are_found};
 pub use parts::has_var;
 pub use refusal::VarErr;
 pub use segment::Segment;
