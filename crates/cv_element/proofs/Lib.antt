@@ -13,5 +13,7 @@ pub mod Ending
 pub mod Lawful
 pub mod Computing
 pub mod Sorting
+pub mod Counting
+pub mod Graphing
 pub mod Reported
 pub mod Whole

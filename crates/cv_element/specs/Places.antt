@@ -1,5 +1,5 @@
 -- The places of the declarations as the nodes of a graph.
-use Rattle.std.specs.Prelude.{ℕ, ◌≡◌, ◌≢◌, ◌<◌, ◌⊎◌, List, [], ◌∷◌, ◌++◌, length, Some, Contains, slice_get}
+use Rattle.std.specs.Prelude.{ℕ, ◌≡◌, ◌≢◌, ◌<◌, ◌⊎◌, List, [], ◌∷◌, ◌++◌, length, Option, Some, None, Contains, slice_get}
 use Rattle.cv_spec_text.specs.declared.token.Token.{Token}
 use Rattle.cv_spec_element.specs.Pieces.{Pieces, RefersTo}
 use Rattle.cv_var.specs.References.{pieces_of}
@@ -31,3 +31,8 @@ abbrev pub Connects : Declarations → List ℕ → List ℕ → List ℕ → Ty
 Connects decls reference row row' =
     ((to : ℕ) × (to < length decls) × (key_at decls to ≡ Custom reference) × (row' ≡ row ++ to ∷ []))
     ⊎ (((place : ℕ) → place < length decls → key_at decls place ≢ Custom reference) × (row' ≡ row))
+
+-- the place of the name, or none where it isn't declared
+abbrev pub IsFound : Declarations → List ℕ → Option ℕ → Type 0
+IsFound decls name None = (place : ℕ) → place < length decls → key_at decls place ≢ Custom name
+IsFound decls name (Some place) = (place < length decls) × (key_at decls place ≡ Custom name)

@@ -1,19 +1,25 @@
 //! The graph of references among the declarations of an element, by their places.
 
-ghost use Rattle.std.specs.Prelude.{◌≡◌, ◌≢◌, ◌↔◌, ◌<◌, ◌≤◌, ℕ, List, [], Contains, length, eqb, bytes_eq, IfOk, OnOk};
+ghost use Rattle.std.specs.Prelude.{◌≡◌, ◌≢◌, ◌↔◌, ◌<◌, ◌≤◌, ℕ, [], length, eqb, bytes_eq, IfOk, OnOk};
 ghost use Rattle.std.specs.List.{IsDistinct};
-ghost use Rattle.std.specs.Map.{keys_of};
-ghost use Rattle.cv_graph.specs.Edges.{targets, most_targets, edge_count, HasEdge};
+ghost use Rattle.cv_graph.specs.Edges.{targets, most_targets, HasEdge};
 ghost use Rattle.cv_valuation.specs.declared.key.Key.TheVariants.{Custom};
-ghost use Rattle.cv_valuation.specs.Keys.{same_key};
-ghost use Rattle.cv_element.specs.Counting.{declared_count, references_at, reference_count};
-ghost use Rattle.cv_element.specs.Places.{Connects, IsPlaceOf, RefersAt};
+ghost use Rattle.cv_element.specs.Counting.{declared_count, references_at};
+ghost use Rattle.cv_element.specs.Places.{Connects, IsFound, IsPlaceOf, RefersAt};
 ghost use Rattle.cv_element.specs.Settling.{key_at};
 
 use cv_graph::Graph;
 use cv_props::{Decls, Key, properties_are_found};
 use cv_spec_text::{Name, OutOfMemory};
 use std::alloc::Global;
+
+// The place of the name, if it is declared.
+fn place_of(decls: &Decls, name: &Name) -> Result<Option<usize>, OutOfMemory>
+    ensures { IfOk result (IsFound decls.now name.now) }
+{
+    let key = Key::Custom(name.copy()?);
+    Ok(decls.index_of(&key))
+}
 
 // An edge to the reference, if it is declared.
 fn connect_one(
@@ -32,8 +38,7 @@ fn connect_one(
     ensures others { OnOk result ((node : ℕ) → node ≢ from → targets graph.new node ≡ targets graph.old node) }
     ensures count { OnOk result (length graph.new ≡ length graph.old) }
 {
-    properties_are_found();
-    match decls.index_of(&Key::Custom(reference.copy()?)) {
+    match place_of(decls, reference)? {
         Some(to) => {
             graph.add_edge(from, to as u32)?;
             Ok(())
