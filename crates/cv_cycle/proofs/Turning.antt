@@ -1,5 +1,5 @@
 -- Edges are turned round one after another.
-use Rattle.std.proofs.Common.{◌≡◌, ◌≢◌, ℕ, zero, suc, ◌+◌, ◌<◌, ◌≤◌, ◌↔◌, Bool, List, [], ◌∷◌, ◌++◌, length, replicate, get_or, Some, ◌⊎◌, inl, inr, refl, sym, ◌∙◌, ap, subst, arith}
+use Rattle.std.proofs.Common.{◌≡◌, ◌≢◌, ℕ, zero, suc, ◌+◌, ◌<◌, ◌≤◌, ◌↔◌, Bool, true, false, List, [], ◌∷◌, ◌++◌, length, replicate, get_or, Some, ◌⊎◌, inl, inr, refl, sym, ◌∙◌, ap, subst, arith}
 use Rattle.std.specs.Prelude.{Contains, eqb, slice_get, slice_index}
 use Rattle.std.specs.List.{IsDistinct}
 use Rattle.std.proofs.lemmas.Bool.{cases_eq, cases_lt}
@@ -117,6 +117,15 @@ module _ (rows : List (List ℕ)) (through : List Bool) (count : ℕ) where
       );
       once = now.once;
     }
+
+    pub turned_one : IsDistinct eqb (targets rows count) → (back' : List (List ℕ)) → (IsMarked through to → targets back' to ≡ targets back to ++ count ∷ []) → (¬ IsMarked through to → back' ≡ back) → ((node : ℕ) → node ≢ to → targets back' node ≡ targets back node) → IsReversedTo rows through count (edge + 1) back'
+    turned_one row_once back' on off others = by (get_or through to false) refl
+      where
+        by : (b : Bool) → get_or through to false ≡ b → IsReversedTo rows through count (edge + 1) back'
+        by true marked = turned_on row_once marked back' (on marked) others
+        by false unmarked =
+            let none : ¬ IsMarked through to = λ marked. let clash : true ≡ false = sym marked ∙ unmarked in cc in
+            subst (λ b. IsReversedTo rows through count (edge + 1) b) (sym (off none)) (turned_off none)
 
   -- all edges of the node are turned
   pub turned_all : (edge : ℕ) → length (targets rows count) ≤ edge → (back : List (List ℕ)) → IsReversedTo rows through count edge back → IsReversed rows through (count + 1) back

@@ -1,6 +1,6 @@
 //! From which nodes of a graph given ones are reached.
 
-ghost use Rattle.std.specs.Prelude.{◌≡◌, ℕ, ◌+◌, ◌<◌, ◌≤◌, ◌↔◌, length, eqb, IfOk, OnOk};
+ghost use Rattle.std.specs.Prelude.{◌≡◌, ◌≢◌, ◌++◌, ◌∷◌, [], ℕ, ◌+◌, ◌<◌, ◌≤◌, ◌↔◌, length, eqb, IfOk, OnOk};
 ghost use Rattle.std.specs.List.{IsDistinct};
 ghost use Rattle.cv_graph.specs.Edges.{IsGraph, targets, most_targets};
 ghost use Rattle.cv_cycle.specs.Marks.{IsMarked};
@@ -10,6 +10,23 @@ use crate::spread::reached;
 use cv_graph::{Graph, OutOfMemory, Steps};
 use std::alloc::Global;
 use std::sync::ledger::Ledger;
+
+// Turns an edge round if it leads to a marked node.
+fn turn(through: &[bool], from: u32, to: u32, back: &mut Graph) -> Result<(), OutOfMemory>
+    requires from { from < length back.old }
+    requires to { to < length back.old }
+    requires through { to < length through.now }
+    requires room { length (targets back.old to) < most_targets }
+    ensures on { OnOk result (IsMarked through.now to → targets back.new to ≡ targets back.old to ++ from ∷ []) }
+    ensures off { OnOk result (¬ IsMarked through.now to → back.new ≡ back.old) }
+    ensures others { (node : ℕ) → node ≢ to → targets back.new node ≡ targets back.old node }
+    ensures count { length back.new ≡ length back.old }
+{
+    if through[to as usize] {
+        back.add_edge(to, from)?;
+    }
+    Ok(())
+}
 
 // Turns the edges of the node round that lead to marked nodes.
 fn reverse_row<L: Ledger>(
@@ -31,11 +48,7 @@ fn reverse_row<L: Ledger>(
 {
     for edge in 0..4294967288 {
         match graph.next(from, edge, steps) {
-            Some(to) => {
-                if through[to as usize] {
-                    back.add_edge(to, from)?;
-                }
-            }
+            Some(to) => turn(through, from, to, back)?,
             None => return Ok(()),
         }
     }
