@@ -135,6 +135,9 @@ pub all_few : (decls : Declarations) (references : List (List ℕ)) (place : ℕ
 all_few decls references place whole row few =
     subst (λ l. length row ≤ declared_count decls l) (ap (λ n. take n references) whole ∙ take-length references) few
 
+entry_same : (a b : Key × Decl) → Some a ≡ Some b → a ≡ b
+entry_same a b same = cc
+
 -- the references of the declaration at a place
 pub references_are : (decls : Declarations) (place : ℕ) (key : Key) (d : Decl) → slice_get decls place ≡ Some (key, d) → (references : List (List ℕ)) → ((name : List ℕ) → Contains references name ↔ RefersTo (pieces_of d.value) name) → (row : List ℕ) → ((to : ℕ) → Contains row to ↔ IsPlaceOf decls references to) → (to : ℕ) → Contains row to ↔ RefersAt decls place to
 references_are decls place key d at references refers row edges to = (
@@ -143,7 +146,7 @@ references_are decls place key d at references refers row edges to = (
       record { below = placed.below; key = key; declaration = d; at = at; name = placed.name; named = placed.named; refers = (refers placed.name).0 placed.refers }),
   (λ reference.
       let both : Some (key, d) ≡ Some (reference.key, reference.declaration) = sym at ∙ reference.at in
-      let same : d ≡ reference.declaration = let pair : (key, d) ≡ (reference.key, reference.declaration) = cc in ap (λ x. x.1) pair in
+      let same : d ≡ reference.declaration = ap (λ (x : Key × Decl). x.1) (entry_same (key, d) (reference.key, reference.declaration) both) in
       (edges to).1 (record { below = reference.below; name = reference.name; named = reference.named; refers = (refers reference.name).1 (subst (λ x. RefersTo (pieces_of x.value) reference.name) (sym same) reference.refers) })),
 )
 

@@ -63,12 +63,12 @@ pub record Laws : Type 0 where
   pub split : TextsAreSplit
   pub fonts : FontUnitsAreTold
 
-holds_unit : (place : Place) (list : List Token) (u : Measure) → HasUnit (words_at place) list u → HoldsUnit list u
+pub holds_unit : (place : Place) (list : List Token) (u : Measure) → HasUnit (words_at place) list u → HoldsUnit list u
 holds_unit place [] u has = has
 holds_unit place (t ∷ rest) u (inl here) = inl here
 holds_unit place (t ∷ rest) u (inr later) = inr (holds_unit place rest u later)
 
-has_unit : (place : Place) (list : List Token) (u : Measure) → HoldsUnit list u → HasUnit (words_at place) list u
+pub has_unit : (place : Place) (list : List Token) (u : Measure) → HoldsUnit list u → HasUnit (words_at place) list u
 has_unit place [] u holds = holds
 has_unit place (t ∷ rest) u (inl here) = inl here
 has_unit place (t ∷ rest) u (inr later) = inr (has_unit place rest u later)

@@ -17,3 +17,5 @@ pub mod Counting
 pub mod Graphing
 pub mod Reported
 pub mod Whole
+pub mod Fonts
+pub mod Ordering

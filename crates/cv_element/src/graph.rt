@@ -38,7 +38,8 @@ fn connect_one(
     ensures others { OnOk result ((node : ℕ) → node ≢ from → targets graph.new node ≡ targets graph.old node) }
     ensures count { OnOk result (length graph.new ≡ length graph.old) }
 {
-    match place_of(decls, reference)? {
+    let found = place_of(decls, reference)?;
+    match found {
         Some(to) => {
             graph.add_edge(from, to as u32)?;
             Ok(())
@@ -93,7 +94,8 @@ fn add_references(
     decls.len();
     let (_, declaration) = decls.at(place as usize);
     let references = declaration.value.references()?;
-    connect(graph, place, decls, &references)
+    connect(graph, place, decls, &references)?;
+    Ok(())
 }
 
 /// The graph whose nodes are the places of the declarations, with an edge for each reference of one to another.

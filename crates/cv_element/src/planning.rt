@@ -11,12 +11,15 @@ ghost use Rattle.cv_element.specs.Settling.{IsPlan};
 use crate::graph::references;
 use crate::held::add_sizes;
 use crate::laws::elements_are_lawful;
+use cv_calc::Unit;
 use cv_cycle::{Order, ordered};
+use cv_frac::Frac;
 use cv_graph::Steps;
-use cv_props::{Decls, Key, Registry, Valuation};
+use cv_props::{Decls, Key, Registry, Valuation, properties_are_found};
 use cv_spec_element::numbers_keep_cycles;
-use cv_spec_text::OutOfMemory;
+use cv_spec_text::{OutOfMemory, Token};
 use cv_spec_valuation::Place;
+use cv_value::Typed;
 use std::alloc::Global;
 use std::sync::ledger::Ledger;
 
@@ -38,7 +41,13 @@ pub fn planned<L: Ledger>(
     ensures counted { steps.old ≤ steps.new }
     ensures bound { steps.new ≤ steps.old + (edge_most decls.now + length decls.now) }
 {
+    elements_are_lawful();
+    numbers_keep_cycles::<Key, Token, Typed, Unit, Frac>();
+    properties_are_found();
+    registry.len();
+    decls.len();
     let mut graph = references(alloc, decls)?;
     add_sizes(alloc, registry, decls, parent, at, &mut graph)?;
-    ordered(alloc, &graph, steps)
+    let order = ordered(alloc, &graph, steps)?;
+    Ok(order)
 }
