@@ -1,7 +1,8 @@
 -- The tests of lists and declarations tell whether they have a font unit.
 use Rattle.std.proofs.Common.{◌≡◌, ℕ, Bool, true, false, not, List, [], ◌∷◌, ◌++◌, length, Option, Some, None, is_some, ◌⊎◌, ◌↔◌, inl, inr, refl, sym, ◌∙◌, ap, subst}
 use Rattle.std.specs.Prelude.{◌&&◌, ◌||◌}
-use Rattle.std.specs.List.{list_any, list_all}
+use Rattle.std.specs.List.{list_any}
+use Rattle.std.proofs.lemmas.List.Folds.{list_any-append}
 use Rattle.cv_spec_text.specs.declared.token.Token.{Token}
 use Rattle.cv_calc.specs.declared.unit.Unit.{Unit as Measure}
 use Rattle.cv_calc_laws.specs.Units.{HoldsUnit, token_unit, token_passes, passes_if}
@@ -51,29 +52,29 @@ false_not : (b : Bool) → b ≡ false → not b ≡ true
 false_not true is = cc
 false_not false is = refl
 
-any_append : {X : Type 0} (p : X → Bool) (xs ys : List X) → (list_any p (xs ++ ys) ≡ true) ↔ ((list_any p xs ≡ true) ⊎ (list_any p ys ≡ true))
-any_append p [] ys = ((λ is. inr is), (λ either. elim either [ inl none ↦ (let clash : false ≡ true = none in cc) | inr is ↦ is ]))
-any_append {X} p (x ∷ xs) ys = (to, from)
-  where
-    to : list_any p ((x ∷ xs) ++ ys) ≡ true → (list_any p (x ∷ xs) ≡ true) ⊎ (list_any p ys ≡ true)
-    to is =
-        elim (or_cases (p x) (list_any p (xs ++ ys)) is) [
-          | inl here ↦ inl (or_left (p x) (list_any p xs) here)
-          | inr later ↦ elim ((any_append p xs ys).0 later) [ inl early ↦ inl (or_right (p x) (list_any p xs) early) | inr late ↦ inr late ]
-        ]
-
-    from : (list_any p (x ∷ xs) ≡ true) ⊎ (list_any p ys ≡ true) → list_any p ((x ∷ xs) ++ ys) ≡ true
-    from (inl front) =
-        elim (or_cases (p x) (list_any p xs) front) [
-          | inl here ↦ or_left (p x) (list_any p (xs ++ ys)) here
-          | inr later ↦ or_right (p x) (list_any p (xs ++ ys)) ((any_append p xs ys).1 (inl later))
-        ]
-    from (inr back) = or_right (p x) (list_any p (xs ++ ys)) ((any_append p xs ys).1 (inr back))
+-- one test or the other
+either : (a b : Bool) (P Q : Type 0) → (a ≡ true) ↔ P → (b ≡ true) ↔ Q → ((a || b) ≡ true) ↔ (P ⊎ Q)
+either a b P Q first second = (
+  (λ is. elim (or_cases a b is) [ inl one ↦ inl (first.0 one) | inr other ↦ inr (second.0 other) ]),
+  (λ holds. elim holds [ inl one ↦ or_left a b (first.1 one) | inr other ↦ or_right a b (second.1 other) ]),
+)
 
 -- ---- lists
 
 abbrev pub SomeFont : Place → (Measure → Type 0) → Type 0
 SomeFont place P = (u : Measure) × (is_font_unit (is_none place.root) u ≡ true) × P u
+
+either_font : (place : Place) (a b : Bool) (P Q : Measure → Type 0) → (a ≡ true) ↔ SomeFont place P → (b ≡ true) ↔ SomeFont place Q → ((a || b) ≡ true) ↔ SomeFont place (λ u. P u ⊎ Q u)
+either_font place a b P Q first second = (
+  (λ is. elim (or_cases a b is) [
+    | inl one ↦ let some = first.0 one in (some.0, some.1, inl some.2)
+    | inr other ↦ let some = second.0 other in (some.0, some.1, inr some.2)
+  ]),
+  (λ some. elim some.2 [
+    | inl one ↦ or_left a b (first.1 (some.0, some.1, one))
+    | inr other ↦ or_right a b (second.1 (some.0, some.1, other))
+  ]),
+)
 
 module _ (fonts : FontUnitsAreTold) (place : Place) where
   abbrev root : Bool
@@ -112,31 +113,12 @@ module _ (fonts : FontUnitsAreTold) (place : Place) where
 
   pub pieces_font : (pieces : Pieces (List ℕ) Token) → (list_any (piece_has_font root) (flattened pieces) ≡ true) ↔ SomeFont place (DeclaresUnit (words_at place) (keyed pieces))
   pieces_font finish = ((λ is. let clash : false ≡ true = is in absurd cc), (λ some. absurd some.2))
-  pieces_font (token t rest) = (to, from)
-    where
-      to : list_any (piece_has_font root) (flattened (token t rest)) ≡ true → SomeFont place (DeclaresUnit (words_at place) (keyed (token t rest)))
-      to is =
-          elim (or_cases (has_font root (t ∷ [])) (list_any (piece_has_font root) (flattened rest)) is) [
-            | inl here ↦ let some = (token_font t).0 here in (some.0, some.1, inl some.2)
-            | inr later ↦ let some = (pieces_font rest).0 later in (some.0, some.1, inr some.2)
-          ]
-
-      from : SomeFont place (DeclaresUnit (words_at place) (keyed (token t rest))) → list_any (piece_has_font root) (flattened (token t rest)) ≡ true
-      from (u, font, inl here) = or_left (has_font root (t ∷ [])) (list_any (piece_has_font root) (flattened rest)) ((token_font t).1 (u, font, here))
-      from (u, font, inr later) = or_right (has_font root (t ∷ [])) (list_any (piece_has_font root) (flattened rest)) ((pieces_font rest).1 (u, font, later))
+  pieces_font (token t rest) =
+      either_font place (has_font root (t ∷ [])) (list_any (piece_has_font root) (flattened rest)) (λ u. token_unit t ≡ Some u) (DeclaresUnit (words_at place) (keyed rest)) (token_font t) (pieces_font rest)
   pieces_font (reference n rest) = pieces_font rest
-  pieces_font (reference_or n fallback rest) = (to, from)
-    where
-      to : list_any (piece_has_font root) (flattened fallback ++ flattened rest) ≡ true → SomeFont place (DeclaresUnit (words_at place) (keyed (reference_or n fallback rest)))
-      to is =
-          elim ((any_append (piece_has_font root) (flattened fallback) (flattened rest)).0 is) [
-            | inl early ↦ let some = (pieces_font fallback).0 early in (some.0, some.1, inl some.2)
-            | inr late ↦ let some = (pieces_font rest).0 late in (some.0, some.1, inr some.2)
-          ]
-
-      from : SomeFont place (DeclaresUnit (words_at place) (keyed (reference_or n fallback rest))) → list_any (piece_has_font root) (flattened fallback ++ flattened rest) ≡ true
-      from (u, font, inl early) = (any_append (piece_has_font root) (flattened fallback) (flattened rest)).1 (inl ((pieces_font fallback).1 (u, font, early)))
-      from (u, font, inr late) = (any_append (piece_has_font root) (flattened fallback) (flattened rest)).1 (inr ((pieces_font rest).1 (u, font, late)))
+  pieces_font (reference_or n fallback rest) =
+      subst (λ b. (b ≡ true) ↔ SomeFont place (DeclaresUnit (words_at place) (keyed (reference_or n fallback rest)))) (sym (list_any-append (piece_has_font root) (flattened fallback) (flattened rest)))
+      (either_font place (list_any (piece_has_font root) (flattened fallback)) (list_any (piece_has_font root) (flattened rest)) (DeclaresUnit (words_at place) (keyed fallback)) (DeclaresUnit (words_at place) (keyed rest)) (pieces_font fallback) (pieces_font rest))
 
   some_word : (o : Option Keyword) → (is_some o ≡ true) ↔ ((w : Keyword) × (o ≡ Some w))
   some_word None = ((λ is. let clash : false ≡ true = is in absurd cc), (λ some. let clash : None ≡ Some some.0 = some.1 in absurd cc))
@@ -144,28 +126,9 @@ module _ (fonts : FontUnitsAreTold) (place : Place) where
 
   pub pieces_keyword : (pieces : Pieces (List ℕ) Token) → (list_any piece_is_keyword (flattened pieces) ≡ true) ↔ DeclaresKeyword (words_at place) (keyed pieces)
   pieces_keyword finish = ((λ is. let clash : false ≡ true = is in absurd cc), (λ none. absurd none))
-  pieces_keyword (token t rest) = (to, from)
-    where
-      to : list_any piece_is_keyword (flattened (token t rest)) ≡ true → DeclaresKeyword (words_at place) (keyed (token t rest))
-      to is =
-          elim (or_cases (is_some (keyword t)) (list_any piece_is_keyword (flattened rest)) is) [
-            | inl here ↦ inl ((some_word (keyword t)).0 here)
-            | inr later ↦ inr ((pieces_keyword rest).0 later)
-          ]
-
-      from : DeclaresKeyword (words_at place) (keyed (token t rest)) → list_any piece_is_keyword (flattened (token t rest)) ≡ true
-      from (inl here) = or_left (is_some (keyword t)) (list_any piece_is_keyword (flattened rest)) ((some_word (keyword t)).1 here)
-      from (inr later) = or_right (is_some (keyword t)) (list_any piece_is_keyword (flattened rest)) ((pieces_keyword rest).1 later)
+  pieces_keyword (token t rest) =
+      either (is_some (keyword t)) (list_any piece_is_keyword (flattened rest)) ((w : Keyword) × (keyword t ≡ Some w)) (DeclaresKeyword (words_at place) (keyed rest)) (some_word (keyword t)) (pieces_keyword rest)
   pieces_keyword (reference n rest) = pieces_keyword rest
-  pieces_keyword (reference_or n fallback rest) = (to, from)
-    where
-      to : list_any piece_is_keyword (flattened fallback ++ flattened rest) ≡ true → DeclaresKeyword (words_at place) (keyed (reference_or n fallback rest))
-      to is =
-          elim ((any_append piece_is_keyword (flattened fallback) (flattened rest)).0 is) [
-            | inl early ↦ inl ((pieces_keyword fallback).0 early)
-            | inr late ↦ inr ((pieces_keyword rest).0 late)
-          ]
-
-      from : DeclaresKeyword (words_at place) (keyed (reference_or n fallback rest)) → list_any piece_is_keyword (flattened fallback ++ flattened rest) ≡ true
-      from (inl early) = (any_append piece_is_keyword (flattened fallback) (flattened rest)).1 (inl ((pieces_keyword fallback).1 early))
-      from (inr late) = (any_append piece_is_keyword (flattened fallback) (flattened rest)).1 (inr ((pieces_keyword rest).1 late))
+  pieces_keyword (reference_or n fallback rest) =
+      subst (λ b. (b ≡ true) ↔ DeclaresKeyword (words_at place) (keyed (reference_or n fallback rest))) (sym (list_any-append piece_is_keyword (flattened fallback) (flattened rest)))
+      (either (list_any piece_is_keyword (flattened fallback)) (list_any piece_is_keyword (flattened rest)) (DeclaresKeyword (words_at place) (keyed fallback)) (DeclaresKeyword (words_at place) (keyed rest)) (pieces_keyword fallback) (pieces_keyword rest))

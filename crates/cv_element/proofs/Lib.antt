@@ -19,3 +19,5 @@ pub mod Reported
 pub mod Whole
 pub mod Fonts
 pub mod Ordering
+pub mod Owning
+pub mod Reaching

@@ -4,7 +4,7 @@ use Rattle.std.specs.Prelude.{ℕ, ◌≡◌, ◌<◌, ◌⊎◌, Bool, true, fa
 use Rattle.std.specs.List.{list_any}
 use Rattle.cv_spec_text.specs.declared.token.Token.{Token}
 use Rattle.cv_calc_laws.specs.Fonts.{holds_no_font_unit}
-use Rattle.cv_spec_element.specs.Dependencies.{Needs, Owns, Holds}
+use Rattle.cv_spec_element.specs.Dependencies.{Needs, Owns, Holds, RefersLoosely}
 use Rattle.cv_var.specs.Flat.{FlatPiece, flat_token, flat_reference, flattened}
 use Rattle.cv_var.specs.Names.{names_of, firsts}
 use Rattle.cv_var.specs.References.{pieces_of}
@@ -32,6 +32,11 @@ OwnsFont e key = (u : Measure) × (e.words.is_font_unit u ≡ true) × Owns e ke
 
 abbrev pub HoldsFont : AnElement → Key → Type 0
 HoldsFont e key = (u : Measure) × (e.words.is_font_unit u ≡ true) × Holds e key u
+
+-- the declaration owns such a unit, or refers to a loose name that isn't declared and owns one
+abbrev pub BeginsFont : AnElement → Declarations → ℕ → Type 0
+BeginsFont e decls place =
+    OwnsFont e (key_at decls place) ⊎ ((name : List ℕ) × RefersLoosely e (key_at decls place) (Custom name) × (e.declarations.pieces (Custom name) ≡ None) × OwnsFont e (Custom name))
 
 -- ---- the tests
 
@@ -75,8 +80,3 @@ owns_font root registered parent key list =
 abbrev pub lends_font : Bool → Registered → Declarations → Option Values → List ℕ → Bool
 lends_font root registered decls parent name =
     is_none (declaration_of decls (Custom name)) && (is_loose registered (Custom name) && outcome_has_font root (start_at registered parent (Custom name)))
-
--- the declaration owns a font unit, or refers to such a name
-abbrev pub begins_font : Bool → Registered → Declarations → Option Values → Key × Decl → Bool
-begins_font root registered decls parent entry =
-    owns_font root registered parent entry.0 entry.1.value || list_any (lends_font root registered decls parent) (firsts (names_of (pieces_of entry.1.value)))
