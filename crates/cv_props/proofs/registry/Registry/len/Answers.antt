@@ -5,4 +5,4 @@ use Rattle.cv_props.proofs.registry.Registry.len.Goals as goal
 
 pub returns-clause-entries : goal.returns-clause-entries
 returns-clause-entries c name entry found =
-    lookup_name IsRegistered c.self.inside.entries.entries name entry c.self.invariant (ap (λ registered. entry_of registered name) c.self.view_is ∙ found)
+    lookup_name IsRegistered c.self.inside.entries.entries name entry c.self.invariant.0 (ap (λ registered. entry_of registered name) c.self.view_is ∙ found)

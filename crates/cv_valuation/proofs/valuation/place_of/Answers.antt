@@ -1,0 +1,7 @@
+use Rattle.std.proofs.Common.{arith, sym, subst, ap, ◌∙◌}
+use Rattle.std.proofs.lemmas.Bool.Decides.{nat_tests}
+use Rattle.cv_valuation.proofs.RowTest.{number_below}
+use Rattle.cv_valuation.proofs.valuation.place_of.Goals as goal
+
+pub returns-else-number-lt-INHERITED-clause-within : goal.returns-else-number-lt-INHERITED-clause-within
+returns-else-number-lt-INHERITED-clause-within c = omega (arith, c.number-number.ensures, number_below c.args.property)
