@@ -32,7 +32,7 @@ use Rattle.cv_om_laws.proofs.Maps.{IsListed, none_listed, product_value, product
 use Rattle.cv_om_laws.proofs.Joined.{operation, join, from_left}
 use Rattle.cv_om_laws.proofs.Rows.{bounded_same, maps_same, AllListed, Right, number_right, row_right}
 use Rattle.cv_om_laws.proofs.Values.{value-Num, value-Sum, value-Product, value-Negate, value-Invert, value-Min, value-Max}
-use Rattle.cv_om_laws.proofs.SumValues.{Good, along, alone, empty, rows_times, parts_of, fold_some}
+use Rattle.cv_om_laws.proofs.SumValues.{Good, along, alone, empty, rows_times, parts_of, fold_some, mul_zero, spread}
 
 clamp_value : (m : Meaning) (l c u : Calc) → value m (Clamp l c u) ≡ both greater (value m l) (both lesser (value m c) (value m u))
 unfolding value
@@ -286,7 +286,93 @@ module _ (m : Meaning) (h : HasPositiveUnits m) where
       let all = kids (c ∷ cs) k (some.0 ∷ some.1.0) found.0 (ap₂ (λ o os. o ∷ os) some.1.1.0 some.1.1.1) found.1 in
       along m h (fold greater some.0 some.1.0) x row some.1.1.2 (chosen_row_fits greater (λ v w. greater_scaled v w) some.0 some.1.0 found.0 row all found.2)
 
-  negated_row : (row : Row) → AllListed row → AllListed (map negated_item row) × (row_value m (map negated_item row) ≡ neg (row_value m row))
+  as_times : (a : Ratio) → neg a ≡ mul (neg one_ratio) a
+  as_times a = sym (neg-mul one_ratio a ∙ ap neg (one_mul a))
+
+  negative_sum : (a b : Ratio) → add (neg a) (neg b) ≡ neg (add a b)
+  negative_sum a b = ap₂ add (as_times a) (as_times b) ∙ sym (as_times (add a b) ∙ spread m h (neg one_ratio) a b)
+
+  negative_zero : zero_ratio ≡ neg zero_ratio
+  negative_zero = sym (as_times zero_ratio ∙ mul_zero (neg one_ratio))
+
+  negated_rows : (row : Row) → AllListed row → AllListed (map negated_item row) × (row_value m (map negated_item row) ≡ neg (row_value m row))
   unfolding row_value
-  negated_row [] l = (tt, ?)
-  negated_row (s ∷ ss) l = let rest = negated_row ss l.1 in ((l.0, rest.0), ap₂ add (neg-mul s.value (units_value m s.units)) rest.1 ∙ ?)
+  negated_rows [] l = (tt, negative_zero)
+  negated_rows (s ∷ ss) l =
+      let rest = negated_rows ss l.1 in
+      ((l.0, rest.0), ap₂ add (neg-mul s.value (units_value m s.units)) rest.1 ∙ negative_sum (item_value m s) (row_value m ss))
+
+  negate_kept : (c : Calc) → IsKept c → IsKept (Negate c)
+  negate_kept c k x row e f = go (value m c) refl (sum_value c) refl (sym (value-Negate m c) ∙ e) (sym (sums.value-Negate c) ∙ f)
+    where
+      go : (o : Option Ratio) → value m c ≡ o → (q : Result Row OmErr) → sum_value c ≡ q → option_map neg o ≡ Some x → answer_map (map negated_item) q ≡ Ok row → Fits x row
+      go (Some y) a (Ok r) b e f =
+          let fits = k y r a b in
+          let turned = negated_rows r fits.listed in
+          let number : neg y ≡ x = cc in
+          let same : map negated_item r ≡ row = cc in
+          let P : Row → Type 0 = λ z. Fits x z in
+          subst P same record { listed = turned.0; total = turned.1 ∙ ap neg fits.total ∙ number }
+      go (Some y) a (Err z) b e f = cc
+      go None a q b e f = cc
+
+  invert_kept : (c : Calc) → IsKept c → IsKept (Invert c)
+  invert_kept c k x row e f = go (value m c) refl (sum_value c) refl (sym (value-Invert m c) ∙ e) (sym (sums.value-Invert c) ∙ f)
+    where
+      go : (o : Option Ratio) → value m c ≡ o → (q : Result Row OmErr) → sum_value c ≡ q → inverse_of o ≡ Some x → and_then q inverse_row ≡ Ok row → Fits x row
+      go (Some y) a (Ok r) b e f = reciprocal_fits y x r row (k y r a b) e f
+      go (Some y) a (Err z) b e f = cc
+      go None a q b e f = cc
+
+  limited_fits : (x y z : Ratio) (l c u : Row) (new : SumItem) → Fits x l → Fits y c → Fits z u → limited_item l c u ≡ Ok new → ItemFits (greater x (lesser y z)) new
+  limited_fits x y z l c u new gl gc gu e = first (one_item l) refl e
+    where
+      second : (s : SumItem) → ItemFits x s → (q : Result SumItem OmErr) → chosen_next lesser (one_item c) u ≡ q → and_then q (chosen_item greater s) ≡ Ok new → ItemFits (greater x (lesser y z)) new
+      second s i (Ok t) j e = chosen_fits greater (λ v w. greater_scaled v w) x (lesser y z) s t new i (inner (one_item c) refl j) e
+        where
+          inner : (q : Result SumItem OmErr) → one_item c ≡ q → chosen_next lesser q u ≡ Ok t → ItemFits (lesser y z) t
+          inner (Ok w) a b = next_fits lesser (λ v w. lesser_scaled v w) y z w t u (one_fits y c w gc a) gu b
+          inner (Err o) a b = cc
+      second s i (Err o) j e = cc
+      first : (q : Result SumItem OmErr) → one_item l ≡ q → and_then q (λ s. and_then (chosen_next lesser (one_item c) u) (chosen_item greater s)) ≡ Ok new → ItemFits (greater x (lesser y z)) new
+      first (Ok s) a e = second s (one_fits x l s gl a) (chosen_next lesser (one_item c) u) refl e
+      first (Err o) a e = cc
+
+  clamp_kept : (l c u : Calc) → IsKept l → IsKept c → IsKept u → IsKept (Clamp l c u)
+  clamp_kept l c u kl kc ku x row e f =
+      go (value m l) refl (value m c) refl (value m u) refl (sum_value l) refl (sum_value c) refl (sum_value u) refl (sym (clamp_value m l c u) ∙ e) (sym (sums.value-Clamp l c u) ∙ f)
+    where
+      go : (ol : Option Ratio) → value m l ≡ ol → (oc : Option Ratio) → value m c ≡ oc → (ou : Option Ratio) → value m u ≡ ou →
+          (ql : Result Row OmErr) → sum_value l ≡ ql → (qc : Result Row OmErr) → sum_value c ≡ qc → (qu : Result Row OmErr) → sum_value u ≡ qu →
+          both greater ol (both lesser oc ou) ≡ Some x → limited ql qc qu ≡ Ok row → Fits x row
+      go (Some a) va (Some b) vb (Some d) vd (Ok ra) sa (Ok rb) sb (Ok rd) sd e f =
+          let same : greater a (lesser b d) ≡ x = cc in
+          along m h (greater a (lesser b d)) x row same
+          (item_row greater (λ v w. greater_scaled v w) (greater a (lesser b d)) (limited_item ra rb rd) row (λ s j. limited_fits a b d ra rb rd s (kl a ra va sa) (kc b rb vb sb) (ku d rd vd sd) j) f)
+      go (Some a) va (Some b) vb (Some d) vd (Ok ra) sa (Ok rb) sb (Err z) sd e f = cc
+      go (Some a) va (Some b) vb (Some d) vd (Ok ra) sa (Err z) sb qu sd e f = cc
+      go (Some a) va (Some b) vb (Some d) vd (Err z) sa qc sb qu sd e f = cc
+      go (Some a) va (Some b) vb None vd ql sa qc sb qu sd e f = cc
+      go (Some a) va None vb ou vd ql sa qc sb qu sd e f = cc
+      go None va oc vb ou vd ql sa qc sb qu sd e f = absurd (none (both lesser oc ou) e)
+        where
+          none : (o : Option Ratio) → both greater None o ≡ Some x → ⊥
+          none o e = cc
+
+  all_kept : (c : Calc) → IsKept c
+  all_kept = by_cases IsKept record {
+    num = λ v u x row e f.
+        let same : ◌≡◌ {A = Option Ratio} (Some (mul v (unit_value m u))) (Some x) = sym (value-Num m v u) ∙ e in
+        let number : mul v (unit_value m u) ≡ x = cc in
+        along m h (mul v (unit_value m u)) x row number (number_right m h v u row (sym (sums.value-Num v u) ∙ f));
+    sum = sum_kept;
+    product = product_kept;
+    negate = negate_kept;
+    invert = invert_kept;
+    min = least_kept;
+    max = greatest_kept;
+    clamp = clamp_kept;
+  }
+
+pub sum_values_are_kept : SumValuesAreKept
+sum_values_are_kept m h c x row e f = (all_kept m h c x row e f).total

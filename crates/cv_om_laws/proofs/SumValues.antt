@@ -33,7 +33,7 @@ use Rattle.cv_om_laws.proofs.Joined.{operation, join, from_left}
 use Rattle.cv_om_laws.proofs.Rows.{bounded_same, maps_same, AllListed, Right, number_right, row_right}
 use Rattle.cv_om_laws.proofs.Values.{value-Num, value-Sum, value-Product, value-Negate, value-Invert, value-Min, value-Max}
 
-mul_zero : (r : Ratio) → mul r zero_ratio ≡ zero_ratio
+pub mul_zero : (r : Ratio) → mul r zero_ratio ≡ zero_ratio
 unfolding zero_ratio
 mul_zero r =
     same_by (mul r (ratio (pos 0) 1)) (ratio (pos 0) 1) (r.top *ℤ pos 0) (pos 0) (r.bottom * 1) 1
@@ -104,7 +104,7 @@ module _ (m : Meaning) (h : HasPositiveUnits m) where
       go (Ok v) f (Err z) g e = cc
       go (Err z) f q g e = cc
 
-  spread : (a b c : Ratio) → mul a (add b c) ≡ add (mul a b) (mul a c)
+  pub spread : (a b c : Ratio) → mul a (add b c) ≡ add (mul a b) (mul a c)
   spread a b c = mul_comm_ratio a (add b c) ∙ mul-add_right b c a ∙ ap₂ add (mul_comm_ratio b a) (mul_comm_ratio c a)
 
   item_times_row : (s : SumItem) (ts row : Row) → all_of (map (item_product s) ts) ≡ Ok row → IsListed s.units → AllListed ts → Good (mul (item_value m s) (row_value m ts)) row
