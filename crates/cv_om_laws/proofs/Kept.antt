@@ -1,36 +1,29 @@
 -- The sum value of each calculation is its value.
-use Rattle.std.specs.Prelude.{ℕ, Bool, true, false, ℤ, pos, ◌*ℤ◌, List, [], ◌∷◌, ◌++◌, map, fold, Option, Some, None, option_map, Result, Ok, Err, if◌then◌else◌}
-use Rattle.std.specs.List.{flat_map}
-use Rattle.std.proofs.Common.{◌≡◌, refl, sym, ◌∙◌, ap, ap₂, subst, arith, ◌*◌}
-use Rattle.std.proofs.lemmas.Int.{ints}
-use Rattle.cv_spec_ratio.specs.Ratio.{Ratio, ratio, add, mul, neg, reciprocal, zero_ratio, one_ratio}
+use Rattle.std.specs.Prelude.{Bool, true, false, List, [], ◌∷◌, map, fold, Option, Some, None, option_map, Result, Ok, Err, if◌then◌else◌}
+use Rattle.std.proofs.Common.{◌≡◌, refl, sym, ◌∙◌, ap, ap₂, subst}
+use Rattle.cv_spec_ratio.specs.Ratio.{Ratio, add, mul, neg, reciprocal, zero_ratio, one_ratio}
 use Rattle.cv_spec_ratio.specs.Order.{lesser, greater}
-use Rattle.cv_spec_ratio.proofs.Laws.{add_comm, add_assoc, add_zero, mul-assoc, mul_one, mul_comm_ratio, mul-add_right, neg-mul, mul_stands, same_by}
-use Rattle.cv_spec_ratio.proofs.LowestTerms.{ratio_stands, stands_self}
-use Rattle.cv_frac.specs.Bounded.{bounded}
-use Rattle.cv_calc.specs.declared.unit.Unit.{Unit}
+use Rattle.cv_spec_ratio.proofs.Laws.{add_comm, add_zero, mul-assoc, mul_one, mul_comm_ratio, neg-mul}
 use Rattle.cv_calc.specs.declared.calc.Calc.{Calc}
-use Rattle.cv_calc.specs.declared.calc.Calc.TheVariants.{Num, Sum, Product, Negate, Invert, Min, Max, Clamp}
+use Rattle.cv_calc.specs.declared.calc.Calc.TheVariants.{Sum, Product, Negate, Invert, Min, Max, Clamp}
 use Rattle.cv_calc.specs.Tree.{Each, by_cases, fold-Clamp}
-use Rattle.cv_calc.specs.Value.{Meaning, unit_value, value, value_step, both, sum_of, product_of, chosen_of, inverse_of}
+use Rattle.cv_calc.specs.Value.{Meaning, unit_value, value, value_step, both, inverse_of}
 use Rattle.cv_om.specs.declared.error.OmErr.{OmErr}
 use Rattle.cv_om.specs.declared.error.OmErr.TheVariants.{BadType}
 use Rattle.cv_om.specs.declared.item.SumItem.{SumItem}
-use Rattle.cv_om.specs.declared.joining.Joining.{Joining}
 use Rattle.cv_om.specs.declared.joining.Joining.TheVariants as joining
-use Rattle.cv_om.specs.Refusal.{and_then, answer_map, all_of, in_range}
-use Rattle.cv_om.specs.UnitMap.{Powers, product_powers, inverse_powers, same_powers}
-use Rattle.cv_om.specs.SumValue.{Row, item, with_row, sum_row, item_product, item_products, times_row, product_row, negated_item, one_item, inverse_item, inverse_row, chosen_item, chosen_next, row_of, chosen_row, limited_item, limited_row, limited, sum_value}
-use Rattle.cv_om.proofs.Refusals.{all_append}
+use Rattle.cv_om.specs.Refusal.{and_then, answer_map, all_of}
+use Rattle.cv_om.specs.UnitMap.{Powers, inverse_powers, same_powers}
+use Rattle.cv_om.specs.SumValue.{Row, item, with_row, sum_row, item_products, times_row, product_row, negated_item, one_item, inverse_item, inverse_row, chosen_item, chosen_next, row_of, chosen_row, limited_item, limited, sum_value}
 use Rattle.cv_om.proofs.SumValues as sums
 use Rattle.cv_om_laws.specs.Valued.{IsPositive, HasPositiveUnits}
 use Rattle.cv_om_laws.specs.Powers.{units_value, item_value, row_value, SumValuesAreKept}
 use Rattle.cv_om_laws.proofs.Raised.{crossed, one_mul, reciprocal_product}
 use Rattle.cv_om_laws.proofs.Positive.{units_positive}
 use Rattle.cv_om_laws.proofs.Scaled.{lesser_scaled, greater_scaled}
-use Rattle.cv_om_laws.proofs.Maps.{IsListed, none_listed, product_value, product_is_listed, inverse_value, inverse_listed}
-use Rattle.cv_om_laws.proofs.Joined.{operation, join, from_left}
-use Rattle.cv_om_laws.proofs.Rows.{bounded_same, maps_same, AllListed, Right, number_right, row_right}
+use Rattle.cv_om_laws.proofs.Maps.{IsListed, none_listed, inverse_value, inverse_listed}
+use Rattle.cv_om_laws.proofs.Joined.{from_left}
+use Rattle.cv_om_laws.proofs.Rows.{maps_same, AllListed, number_right, row_right}
 use Rattle.cv_om_laws.proofs.Values.{value-Num, value-Sum, value-Product, value-Negate, value-Invert, value-Min, value-Max}
 use Rattle.cv_om_laws.proofs.SumValues.{Good, along, alone, empty, rows_times, parts_of, fold_some, mul_zero, spread}
 
@@ -39,7 +32,7 @@ unfolding value
 clamp_value m l c u = fold-Clamp (value_step m) l c u
 
 module _ (m : Meaning) (h : HasPositiveUnits m) where
-  abbrev Fits : Ratio → Row → Type 0
+  abbrev pub Fits : Ratio → Row → Type 0
   Fits x row = Good m h x row
 
   -- rows that have values, one each
@@ -93,10 +86,10 @@ module _ (m : Meaning) (h : HasPositiveUnits m) where
 
   -- ---- rows of one item
 
-  abbrev ItemFits : Ratio → SumItem → Type 0
+  abbrev pub ItemFits : Ratio → SumItem → Type 0
   ItemFits x s = IsListed s.units × (item_value m s ≡ x)
 
-  one_fits : (x : Ratio) (row : Row) (s : SumItem) → Fits x row → one_item row ≡ Ok s → ItemFits x s
+  pub one_fits : (x : Ratio) (row : Row) (s : SumItem) → Fits x row → one_item row ≡ Ok s → ItemFits x s
   one_fits x [] s g e = cc
   one_fits x (t ∷ []) s g e =
       let same : t ≡ s = cc in
@@ -116,15 +109,18 @@ module _ (m : Meaning) (h : HasPositiveUnits m) where
       value_is v k w j a b c =
           sym (mul_one (mul w j)) ∙ ap (mul (mul w j)) (sym (reciprocal_product x y r)) ∙ sym (mul-assoc (mul w j) x y)
           ∙ ap (λ z. mul (mul (mul w j) z) y) (sym c) ∙ ap (λ z. mul z y) (crossed w j v k ∙ ap₂ mul (mul_comm_ratio w v ∙ a) (mul_comm_ratio j k ∙ b) ∙ mul_one one_ratio) ∙ one_mul y
+
       maps : (s : SumItem) (w : Ratio) → ItemFits x s → reciprocal s.value ≡ Some w → (q : Result Powers OmErr) → inverse_powers s.units ≡ q → answer_map (λ inverse. item w inverse ∷ []) q ≡ Ok new → Fits y new
       maps s w i f (Ok us) k e =
           let same : item w us ∷ [] ≡ new = cc in
           let P : Row → Type 0 = λ z. Fits y z in
           subst P same (row_fits y (item w us) (inverse_listed s.units us i.0 k, value_is s.value (units_value m s.units) w (units_value m us) (reciprocal_product s.value w f) (inverse_value m h s.units us k) i.1))
       maps s w i f (Err z) k e = cc
+
       numbers : (s : SumItem) → ItemFits x s → (o : Option Ratio) → reciprocal s.value ≡ o → inverse_item s.units o ≡ Ok new → Fits y new
       numbers s i (Some w) f e = maps s w i f (inverse_powers s.units) refl e
       numbers s i None f e = cc
+
       go : (q : Result SumItem OmErr) → one_item row ≡ q → and_then q (λ s. inverse_item s.units (reciprocal s.value)) ≡ Ok new → Fits y new
       go (Ok s) f e = numbers s (one_fits x row s g f) (reciprocal s.value) refl e
       go (Err z) f e = cc
@@ -139,9 +135,11 @@ module _ (m : Meaning) (h : HasPositiveUnits m) where
         go true b e =
             let same : item (f s.value t.value) s.units ≡ new = cc in
             let P : SumItem → Type 0 = λ i. ItemFits (f x y) i in
-            subst P same (g.0,
+            subst P same (
+              g.0,
               sym (scaled s.value t.value (units_value m s.units) (units_positive m h s.units))
-              ∙ ap₂ f g.1 (ap (λ us. mul t.value (units_value m us)) (maps_same s.units t.units b) ∙ k.1))
+                  ∙ ap₂ f g.1 (ap (λ us. mul t.value (units_value m us)) (maps_same s.units t.units b) ∙ k.1),
+            )
         go false b e = cc
 
     next_fits : (x y : Ratio) (s new : SumItem) (row : Row) → ItemFits x s → Fits y row → chosen_next f (Ok s) row ≡ Ok new → ItemFits (f x y) new
@@ -185,7 +183,7 @@ module _ (m : Meaning) (h : HasPositiveUnits m) where
 
   -- ---- calculations
 
-  abbrev IsKept : Calc → Type 0
+  abbrev pub IsKept : Calc → Type 0
   IsKept c = (x : Ratio) (row : Row) → value m c ≡ Some x → sum_value c ≡ Ok row → Fits x row
 
   kids : (cs : List Calc) → Each IsKept cs → (xs : List Ratio) (rows : List Row) → map (value m) cs ≡ map Some xs → all_of (map sum_value cs) ≡ Ok rows → AllFit xs rows
@@ -334,6 +332,7 @@ module _ (m : Meaning) (h : HasPositiveUnits m) where
           inner (Ok w) a b = next_fits lesser (λ v w. lesser_scaled v w) y z w t u (one_fits y c w gc a) gu b
           inner (Err o) a b = cc
       second s i (Err o) j e = cc
+
       first : (q : Result SumItem OmErr) → one_item l ≡ q → and_then q (λ s. and_then (chosen_next lesser (one_item c) u) (chosen_item greater s)) ≡ Ok new → ItemFits (greater x (lesser y z)) new
       first (Ok s) a e = second s (one_fits x l s gl a) (chosen_next lesser (one_item c) u) refl e
       first (Err o) a e = cc
@@ -359,7 +358,7 @@ module _ (m : Meaning) (h : HasPositiveUnits m) where
           none : (o : Option Ratio) → both greater None o ≡ Some x → ⊥
           none o e = cc
 
-  all_kept : (c : Calc) → IsKept c
+  pub all_kept : (c : Calc) → IsKept c
   all_kept = by_cases IsKept record {
     num = λ v u x row e f.
         let same : ◌≡◌ {A = Option Ratio} (Some (mul v (unit_value m u))) (Some x) = sym (value-Num m v u) ∙ e in

@@ -1,3 +1,4 @@
+pub mod Converted
 pub mod Joined
 pub mod Kept
 pub mod Maps

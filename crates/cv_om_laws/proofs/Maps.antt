@@ -1,12 +1,11 @@
 -- The values of unit maps.
 use Rattle.std.specs.Prelude.{Bool, true, false, not, ◌&&◌, ◌||◌, ℤ, pos, negsuc, zero, suc, neg_ℤ, ◌+ℤ◌, List, [], ◌∷◌, ◌++◌, map, Option, Some, None, option_map, Result, Ok, Err, if◌then◌else◌}
-use Rattle.std.specs.List.{flat_map, list_all, list_any}
+use Rattle.std.specs.List.{list_all, list_any}
 use Rattle.std.specs.Ordering.{int_eq}
 use Rattle.std.proofs.Common.{◌≡◌, ℕ, refl, sym, ◌∙◌, ap, ap₂}
 use Rattle.std.proofs.lemmas.Bool.Decides.{Decides-int_eq}
-use Rattle.std.proofs.lemmas.Int.{ints}
 use Rattle.cv_spec_ratio.specs.Ratio.{Ratio, mul, reciprocal, one_ratio}
-use Rattle.cv_spec_ratio.proofs.Laws.{mul-assoc, mul_one, mul_comm_ratio}
+use Rattle.cv_spec_ratio.proofs.Laws.{mul-assoc, mul_one}
 use Rattle.cv_calc.specs.declared.unit.Unit.{Unit}
 use Rattle.cv_calc.specs.declared.unit.Unit.TheVariants.{Number}
 use Rattle.cv_calc.specs.Unit.{same_unit, same_unit-true}
@@ -64,9 +63,11 @@ present g (t ∷ us) u d e =
     here : (b : Bool) → int_eq (g t) (pos 0) ≡ b → t ≡ u → among t us ≡ false → same_unit t u ≡ true → power_in (behind b t (g t) (powers_listed g us)) u ≡ g u
     here true z s n k = absent g us u (ap (λ w. among w us) (sym s) ∙ n) ∙ sym ((Decides-int_eq (g t) (pos 0)).0 z) ∙ ap g s
     here false z s n k = ap (λ b. if b then g t else power_in (powers_listed g us) u) k ∙ ap g s
+
     later : (b : Bool) → same_unit t u ≡ false → power_in (powers_listed g us) u ≡ g u → power_in (behind b t (g t) (powers_listed g us)) u ≡ g u
     later true k r = r
     later false k r = ap (λ b. if b then g t else power_in (powers_listed g us) u) k ∙ r
+
     go : (s : Bool) → same_unit t u ≡ s → (b : Bool) → int_eq (g t) (pos 0) ≡ b → (among u us ≡ true → power_in (powers_listed g us) u ≡ g u) → among t us ≡ false → (s || among u us) ≡ true →
         power_in (behind b t (g t) (powers_listed g us)) u ≡ g u
     go true k b z r n e = here b z (same_unit-true t u k) n k
@@ -125,6 +126,7 @@ not_zero n = go (int_eq (pos (suc n)) (pos 0)) refl
   where
     apart : pos (suc n) ≡ pos 0 → ⊥
     apart e = cc
+
     go : (b : Bool) → int_eq (pos (suc n)) (pos 0) ≡ b → b ≡ false
     go true e = absurd (apart ((Decides-int_eq (pos (suc n)) (pos 0)).0 e))
     go false e = refl

@@ -1,6 +1,6 @@
 -- Products, powers and reciprocals of positive fractions are positive.
-use Rattle.std.specs.Prelude.{Bool, true, false, ℤ, pos, negsuc, neg_ℤ, zero, suc, ◌*ℤ◌, Option, Some, None, List, [], ◌∷◌}
-use Rattle.std.proofs.Common.{◌≡◌, ℕ, ◌*◌, ◌<◌, refl, sym, ◌∙◌, ap, ap₂, arith}
+use Rattle.std.specs.Prelude.{true, ℤ, pos, negsuc, neg_ℤ, zero, suc, ◌*ℤ◌, Some, [], ◌∷◌}
+use Rattle.std.proofs.Common.{◌≡◌, ℕ, ◌*◌, ◌<◌, refl, arith}
 use Rattle.cv_spec_ratio.specs.Ratio.{Ratio, ratio, mul, reciprocal, reciprocal_by, one_ratio}
 use Rattle.cv_spec_ratio.proofs.Laws.{mul_stands, positive_product}
 use Rattle.cv_spec_ratio.proofs.LowestTerms.{StandsFor, ratio_stands, stands_self}
@@ -61,6 +61,7 @@ flipped f h = record { is = there f.top f.bottom h; positive = above f.top f.bot
     there (pos zero) q h = cc
     there (pos (suc n)) q h = refl
     there (negsuc n) q h = cc
+
     above : (t : ℤ) (q : ℕ) → 0 < q → is_above_zero t ≡ true → IsPositive (or_one (reciprocal_by t q))
     above (pos zero) q p h = cc
     above (negsuc n) q p h = cc

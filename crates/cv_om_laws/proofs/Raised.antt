@@ -1,5 +1,5 @@
 -- Powers of a fraction that isn't 0.
-use Rattle.std.specs.Prelude.{ℤ, pos, negsuc, zero, suc, neg_ℤ, ◌+ℤ◌, ◌*ℤ◌, Some, None, Option}
+use Rattle.std.specs.Prelude.{ℤ, pos, negsuc, zero, suc, neg_ℤ, ◌+ℤ◌, ◌*ℤ◌, Some}
 use Rattle.std.proofs.Common.{◌≡◌, ℕ, ◌+◌, ◌*◌, ◌<◌, refl, sym, ◌∙◌, ap, ap₂, subst, arith, mul_comm}
 use Rattle.std.proofs.lemmas.Int.{ints}
 use borrow.Author.Differences.{up, down}
@@ -7,7 +7,7 @@ use Rattle.cv_spec_ratio.specs.Ratio.{Ratio, ratio, mul, reciprocal, reciprocal_
 use Rattle.cv_spec_ratio.proofs.Difference.{dif, as_dif, same_dif, pos-dif, dif-neg, dif-add}
 use Rattle.cv_spec_ratio.proofs.Laws.{mul-assoc, mul_one, mul_comm_ratio, mul_stands, same_by}
 use Rattle.cv_spec_ratio.proofs.LowestTerms.{StandsFor, ratio_stands, stands_self}
-use Rattle.cv_om_laws.specs.Powers.{raised, or_one, to_power}
+use Rattle.cv_om_laws.specs.Powers.{raised}
 
 pub one_mul : (r : Ratio) → mul one_ratio r ≡ r
 one_mul r = mul_comm_ratio one_ratio r ∙ mul_one r
@@ -57,6 +57,7 @@ module _ (f g : Ratio) (inverse : mul f g ≡ one_ratio) where
     where
       first : (n a b : ℕ) → n + b ≡ a + 0 → n + b ≡ a
       first n a b h = omega (arith, h)
+
       second : (b : ℕ) → 0 + b ≡ b
       second b = omega arith
   power_is (negsuc n) a b e =
@@ -65,6 +66,7 @@ module _ (f g : Ratio) (inverse : mul f g ≡ one_ratio) where
     where
       first : (a : ℕ) → 0 + a ≡ a
       first a = omega arith
+
       second : (n a b : ℕ) → 0 + b ≡ a + suc n → suc n + a ≡ b
       second n a b h = omega (arith, h)
 
@@ -89,6 +91,7 @@ reciprocal_product r s e = go r.top r.bottom refl refl e
   where
     crossing : (p q : ℕ) → pos 1 *ℤ pos (q * suc p) ≡ (pos (suc p) *ℤ pos q) *ℤ pos 1
     crossing p q = omega (arith, ints, mul_comm q (suc p))
+
     by_numbers : (t u : ℤ) (b d : ℕ) → r.top ≡ t → r.bottom ≡ b → 0 < d → s ≡ ratio u d → pos 1 *ℤ pos (b * d) ≡ (t *ℤ u) *ℤ pos 1 → mul r s ≡ ratio (pos 1) 1
     by_numbers t u b d et eb h es cross =
         same_by (mul r s) (ratio (pos 1) 1) (r.top *ℤ u) (pos 1) (r.bottom * d) 1 (mul_stands r s r.top u r.bottom d (stands_self r) (stands_of u d h es)) (ratio_stands (pos 1) 1 (omega arith))
@@ -96,6 +99,7 @@ reciprocal_product r s e = go r.top r.bottom refl refl e
       where
         stands_of : (u : ℤ) (d : ℕ) → 0 < d → s ≡ ratio u d → StandsFor s u d
         stands_of u d h es = let P : Ratio → Type 0 = λ x. StandsFor x u d in subst P (sym es) (ratio_stands u d h)
+
     go : (t : ℤ) (q : ℕ) → r.top ≡ t → r.bottom ≡ q → reciprocal_by t q ≡ Some s → mul r s ≡ ratio (pos 1) 1
     go (pos zero) q et eq h = cc
     go (pos (suc p)) q et eq h = let same : s ≡ ratio (pos q) (suc p) = cc in by_numbers (pos (suc p)) (pos q) q (suc p) et eq (omega arith) same (crossing p q)

@@ -1,29 +1,26 @@
 -- The values of rows of items.
-use Rattle.std.specs.Prelude.{Bool, true, false, ◌&&◌, ℤ, pos, List, [], ◌∷◌, ◌++◌, map, fold, Option, Some, None, Result, Ok, Err, if◌then◌else◌}
-use Rattle.std.specs.List.{flat_map}
+use Rattle.std.specs.Prelude.{Bool, true, false, ◌&&◌, pos, [], ◌∷◌, fold, Result, Ok, Err, if◌then◌else◌}
 use Rattle.std.specs.Ordering.{int_eq}
 use lib.Pointwise.{pointwise}
 use Rattle.std.proofs.Common.{◌≡◌, refl, sym, ◌∙◌, ap, ap₂, subst}
 use Rattle.std.proofs.lemmas.Bool.Decides.{Decides-int_eq}
-use Rattle.cv_spec_ratio.specs.Ratio.{Ratio, add, mul, neg, reciprocal, zero_ratio, one_ratio}
-use Rattle.cv_spec_ratio.proofs.Laws.{add_comm, add_assoc, add_zero, mul-assoc, mul_one, mul_comm_ratio, mul-add_right, neg-mul}
-use Rattle.cv_frac.specs.declared.error.FracErr.{FracErr}
+use Rattle.cv_spec_ratio.specs.Ratio.{Ratio, add, mul, zero_ratio, one_ratio}
+use Rattle.cv_spec_ratio.proofs.Laws.{add_comm, add_assoc, add_zero, mul-assoc, mul_one, mul-add_right}
 use Rattle.cv_frac.specs.declared.error.FracErr.TheVariants as fraction
 use Rattle.cv_frac.specs.Bounded.{in_bounds, bounded}
 use Rattle.cv_calc.specs.declared.unit.Unit.{Unit}
 use Rattle.cv_calc.specs.declared.unit.Unit.TheVariants.{Number, Percent, Em, Rem, Ex, Ch, Ic, Vw, Vh, Vmin, Vmax}
 use Rattle.cv_calc.specs.Unit.{same_unit, same_unit-true}
-use Rattle.cv_calc.specs.Factor.{half, hundredth, factor}
 use Rattle.cv_calc.specs.Value.{Meaning, unit_value}
 use Rattle.cv_om.specs.declared.error.OmErr.{OmErr}
 use Rattle.cv_om.specs.declared.item.SumItem.{SumItem}
-use Rattle.cv_om.specs.Refusal.{and_then, answer_map, all_of, in_range}
-use Rattle.cv_om.specs.UnitMap.{Powers, all_units, power_in, powers_listed, product_powers, same_power, same_powers, no_sizes, sum_unit, sum_factor, unit_powers}
-use Rattle.cv_om.specs.SumValue.{Row, item, number_row, added_item, with_item, with_next, with_row, item_product, item_products, times_row}
+use Rattle.cv_om.specs.Refusal.{answer_map, in_range}
+use Rattle.cv_om.specs.UnitMap.{Powers, power_in, same_power, same_powers, sum_unit, sum_factor, unit_powers}
+use Rattle.cv_om.specs.SumValue.{Row, item, number_row, added_item, with_item, with_next, with_row}
 use Rattle.cv_om_laws.specs.Valued.{HasPositiveUnits}
 use Rattle.cv_om_laws.specs.Powers.{raised, units_value, item_value, row_value}
-use Rattle.cv_om_laws.proofs.Raised.{crossed, one_mul}
-use Rattle.cv_om_laws.proofs.Maps.{IsListed, product_value, product_is_listed}
+use Rattle.cv_om_laws.proofs.Raised.{one_mul}
+use Rattle.cv_om_laws.proofs.Maps.{IsListed}
 
 pub bounded_same : (r v : Ratio) → in_range (bounded r) ≡ Ok v → r ≡ v
 bounded_same r v e = go (in_bounds r) e
@@ -65,7 +62,7 @@ module _ (m : Meaning) (h : HasPositiveUnits m) where
   unfolding units_value raised
   one_unit_value u = mul_one (mul (unit_value m u) one_ratio) ∙ mul_one (unit_value m u)
 
-  factor_is : (u : Unit) → mul (sum_factor u) (units_value m (unit_powers u)) ≡ unit_value m u
+  pub factor_is : (u : Unit) → mul (sum_factor u) (units_value m (unit_powers u)) ≡ unit_value m u
   unfolding units_value
   factor_is Number = mul_one one_ratio
   factor_is Percent = ap (mul one_ratio) (one_unit_value Percent) ∙ one_mul m.percent
@@ -122,6 +119,7 @@ module _ (m : Meaning) (h : HasPositiveUnits m) where
                 ∙ swapped (item_value m s) (item_value m t) (row_value m ss);
           }
       joined (Err z) f u e = cc
+
       later : (r : Result Row OmErr) → with_item ss t ≡ r → answer_map (λ rest. s ∷ rest) r ≡ Ok new → ((new : Row) (t : SumItem) → with_item ss t ≡ Ok new → AllListed ss → IsListed t.units → Right (add (row_value m ss) (item_value m t)) new) →
           Right (add (add (item_value m s) (row_value m ss)) (item_value m t)) new
       later (Ok rest) f e ih =
@@ -130,6 +128,7 @@ module _ (m : Meaning) (h : HasPositiveUnits m) where
           let P : Row → Type 0 = λ x. Right (add (add (item_value m s) (row_value m ss)) (item_value m t)) x in
           subst P same record { listed = (l.0, right.listed); total = ap (add (item_value m s)) right.total ∙ sym (add_assoc (item_value m s) (row_value m ss) (item_value m t)) }
       later (Err z) f e ih = cc
+
       go : (b : Bool) → same_powers t.units s.units ≡ b → (if b then answer_map (λ sum. sum ∷ ss) (added_item s t) else answer_map (λ rest. s ∷ rest) (with_item ss t)) ≡ Ok new →
           ((new : Row) (t : SumItem) → with_item ss t ≡ Ok new → AllListed ss → IsListed t.units → Right (add (row_value m ss) (item_value m t)) new) → Right (add (add (item_value m s) (row_value m ss)) (item_value m t)) new
       go true b e ih = joined (in_range (bounded (add s.value t.value))) refl (maps_same t.units s.units b) e

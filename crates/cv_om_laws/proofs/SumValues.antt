@@ -1,37 +1,23 @@
 -- The value of a sum value is the value of the calculation.
-use Rattle.std.specs.Prelude.{ℕ, Bool, true, false, ℤ, pos, ◌*ℤ◌, List, [], ◌∷◌, ◌++◌, map, fold, Option, Some, None, option_map, Result, Ok, Err, if◌then◌else◌}
-use Rattle.std.specs.List.{flat_map}
+use Rattle.std.specs.Prelude.{ℕ, ℤ, pos, ◌*ℤ◌, List, [], ◌∷◌, ◌++◌, map, fold, Option, Some, None, Result, Ok, Err}
 use Rattle.std.proofs.Common.{◌≡◌, refl, sym, ◌∙◌, ap, ap₂, subst, arith, ◌*◌}
 use Rattle.std.proofs.lemmas.Int.{ints}
-use Rattle.cv_spec_ratio.specs.Ratio.{Ratio, ratio, add, mul, neg, reciprocal, zero_ratio, one_ratio}
-use Rattle.cv_spec_ratio.specs.Order.{lesser, greater}
-use Rattle.cv_spec_ratio.proofs.Laws.{add_comm, add_assoc, add_zero, mul-assoc, mul_one, mul_comm_ratio, mul-add_right, neg-mul, mul_stands, same_by}
+use Rattle.cv_spec_ratio.specs.Ratio.{Ratio, ratio, add, mul, zero_ratio}
+use Rattle.cv_spec_ratio.proofs.Laws.{add_comm, add_assoc, add_zero, mul_comm_ratio, mul-add_right, mul_stands, same_by}
 use Rattle.cv_spec_ratio.proofs.LowestTerms.{ratio_stands, stands_self}
 use Rattle.cv_frac.specs.Bounded.{bounded}
-use Rattle.cv_calc.specs.declared.unit.Unit.{Unit}
-use Rattle.cv_calc.specs.declared.calc.Calc.{Calc}
-use Rattle.cv_calc.specs.declared.calc.Calc.TheVariants.{Num, Sum, Product, Negate, Invert, Min, Max, Clamp}
-use Rattle.cv_calc.specs.Tree.{Each, by_cases, fold-Clamp}
-use Rattle.cv_calc.specs.Value.{Meaning, unit_value, value, value_step, both, sum_of, product_of, chosen_of, inverse_of}
+use Rattle.cv_calc.specs.Value.{Meaning, both}
 use Rattle.cv_om.specs.declared.error.OmErr.{OmErr}
-use Rattle.cv_om.specs.declared.error.OmErr.TheVariants.{BadType}
 use Rattle.cv_om.specs.declared.item.SumItem.{SumItem}
-use Rattle.cv_om.specs.declared.joining.Joining.{Joining}
-use Rattle.cv_om.specs.declared.joining.Joining.TheVariants as joining
 use Rattle.cv_om.specs.Refusal.{and_then, answer_map, all_of, in_range}
-use Rattle.cv_om.specs.UnitMap.{Powers, product_powers, inverse_powers, same_powers}
-use Rattle.cv_om.specs.SumValue.{Row, item, with_row, sum_row, item_product, item_products, times_row, product_row, negated_item, one_item, inverse_item, inverse_row, chosen_item, chosen_next, row_of, chosen_row, limited_item, limited_row, limited, sum_value}
+use Rattle.cv_om.specs.UnitMap.{Powers, product_powers}
+use Rattle.cv_om.specs.SumValue.{Row, item, item_product, item_products}
 use Rattle.cv_om.proofs.Refusals.{all_append}
-use Rattle.cv_om.proofs.SumValues as sums
-use Rattle.cv_om_laws.specs.Valued.{IsPositive, HasPositiveUnits}
-use Rattle.cv_om_laws.specs.Powers.{units_value, item_value, row_value, SumValuesAreKept}
-use Rattle.cv_om_laws.proofs.Raised.{crossed, one_mul, reciprocal_product}
-use Rattle.cv_om_laws.proofs.Positive.{units_positive}
-use Rattle.cv_om_laws.proofs.Scaled.{lesser_scaled, greater_scaled}
-use Rattle.cv_om_laws.proofs.Maps.{IsListed, product_value, product_is_listed, inverse_value, inverse_listed}
-use Rattle.cv_om_laws.proofs.Joined.{operation, join, from_left}
-use Rattle.cv_om_laws.proofs.Rows.{bounded_same, maps_same, AllListed, Right, number_right, row_right}
-use Rattle.cv_om_laws.proofs.Values.{value-Num, value-Sum, value-Product, value-Negate, value-Invert, value-Min, value-Max}
+use Rattle.cv_om_laws.specs.Valued.{HasPositiveUnits}
+use Rattle.cv_om_laws.specs.Powers.{units_value, item_value, row_value}
+use Rattle.cv_om_laws.proofs.Raised.{crossed}
+use Rattle.cv_om_laws.proofs.Maps.{IsListed, product_value, product_is_listed}
+use Rattle.cv_om_laws.proofs.Rows.{bounded_same, AllListed, Right}
 
 pub mul_zero : (r : Ratio) → mul r zero_ratio ≡ zero_ratio
 unfolding zero_ratio
@@ -99,8 +85,10 @@ module _ (m : Meaning) (h : HasPositiveUnits m) where
       go (Ok v) f (Ok us) g e =
           let same : item v us ≡ p = cc in
           let P : SumItem → Type 0 = λ i. IsListed i.units × (item_value m i ≡ mul (item_value m s) (item_value m t)) in
-          subst P same (product_is_listed s.units t.units us g,
-            ap₂ mul (sym (bounded_same (mul s.value t.value) v f)) (product_value m h s.units t.units us k l g) ∙ crossed s.value t.value (units_value m s.units) (units_value m t.units))
+          subst P same (
+            product_is_listed s.units t.units us g,
+            ap₂ mul (sym (bounded_same (mul s.value t.value) v f)) (product_value m h s.units t.units us k l g) ∙ crossed s.value t.value (units_value m s.units) (units_value m t.units),
+          )
       go (Ok v) f (Err z) g e = cc
       go (Err z) f q g e = cc
 

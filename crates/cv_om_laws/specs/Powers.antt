@@ -1,12 +1,14 @@
 -- The value of a sum value: each item's fraction times its units, each to its power (CSS Typed OM 1, "Common Numeric Operations, and the
 -- CSSNumericValue Superclass").
-use Rattle.std.specs.Prelude.{◌≡◌, ℕ, zero, suc, ℤ, pos, negsuc, List, [], ◌∷◌, Option, Some, None, Ok}
+use Rattle.std.specs.Prelude.{◌≡◌, ℕ, zero, suc, ℤ, pos, negsuc, [], ◌∷◌, Option, Some, None, Ok}
 use Rattle.cv_spec_ratio.specs.Ratio.{Ratio, add, mul, reciprocal, zero_ratio, one_ratio}
+use Rattle.cv_calc.specs.declared.unit.Unit as units
 use Rattle.cv_calc.specs.declared.calc.Calc.{Calc}
 use Rattle.cv_calc.specs.Value.{Meaning, unit_value, value}
 use Rattle.cv_om.specs.declared.item.SumItem.{SumItem}
 use Rattle.cv_om.specs.UnitMap.{Powers}
 use Rattle.cv_om.specs.SumValue.{Row, sum_value}
+use Rattle.cv_om.specs.Conversion.{converted}
 use Rattle.cv_om_laws.specs.Valued.{HasPositiveUnits}
 
 unfoldable pub raised : Ratio → ℕ → Ratio
@@ -36,3 +38,7 @@ row_value m (s ∷ ss) = add (item_value m s) (row_value m ss)
 -- where each unit means something positive, the sum of the items is the value
 abbrev pub SumValuesAreKept : Type 0
 SumValuesAreKept = (m : Meaning) → HasPositiveUnits m → (c : Calc) (x : Ratio) (row : Row) → value m c ≡ Some x → sum_value c ≡ Ok row → row_value m row ≡ x
+
+-- and a conversion to a unit keeps it
+abbrev pub ConversionsAreKept : Type 0
+ConversionsAreKept = (m : Meaning) → HasPositiveUnits m → (u : units.Unit) (c d : Calc) (x : Ratio) → value m c ≡ Some x → converted u c ≡ Ok d → value m d ≡ Some x
