@@ -8,9 +8,8 @@ use crate::alpha::{with_alpha, without_alpha};
 use crate::channels::{Channels, Form, by_either, three};
 use cv_calc::Context;
 use cv_color::Color;
-use cv_component::matching;
+use cv_component::{Separator, comma_parts, matching, parts, spaced_parts, trim};
 use cv_numeric::Matched;
-use cv_component::{Separator, comma_parts, parts, spaced_parts, trim};
 use cv_spec_text::{Name, Token};
 use std::alloc::{AllocError, Global};
 

@@ -15,7 +15,7 @@ use Rattle.cv_valuation.specs.declared.computed.Cause.{Cause}
 use Rattle.cv_valuation.specs.declared.key.Key.{Key}
 use Rattle.cv_valuation.specs.Keys.{key_text}
 use Rattle.cv_element.specs.declared.faults.Named.{Named}
-use Rattle.cv_element.specs.Element.{Faults, IsOnce, IsByName}
+use Rattle.cv_spec_valuation.specs.Computed.{Faults, IsOnce, IsByName}
 use Rattle.cv_element.specs.FaultNames.{named, fault_of}
 
 -- the order by the names

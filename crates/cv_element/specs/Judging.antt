@@ -25,11 +25,6 @@ use Rattle.cv_element.specs.declared.judging.Verdict.TheVariants.{Used, Refused,
 use Rattle.cv_element.specs.Keywords.{alone}
 use Rattle.cv_element.specs.Values.{held_by}
 
--- a custom property, or `font-size`
-abbrev pub IsBuilt : Key → Type 0
-IsBuilt (Custom name) = Unit {0}
-IsBuilt (Table property) = property ≡ FontSize
-
 -- the size that `em` is where the property is read
 abbrev pub em_for : Option Values → Values → Key → Ratio
 em_for parent values key = if same_key key (Table FontSize) then size_above parent else size_of (outcome_at values (Table FontSize))

@@ -9,18 +9,17 @@ use Rattle.cv_spec_element.specs.Element.{Outcome}
 use Rattle.cv_spec_element.specs.Dependencies.{Reads, DependsOnItself}
 use Rattle.cv_spec_element.specs.Valuation.{Cause, IsInvalid, IsOutOfRange, Gives}
 use Rattle.cv_subst.specs.Values.{value_in}
+use Rattle.cv_var.specs.Checked.{IsChecked}
 use Rattle.cv_var.specs.References.{pieces_of}
 use Rattle.cv_valuation.specs.declared.computed.Cause.{Cause as Reported}
 use Rattle.cv_valuation.specs.declared.key.Key.{Key}
 use Rattle.cv_valuation.specs.declared.key.Key.TheVariants.{Custom, Table}
 use Rattle.cv_valuation.specs.declared.outcome.Outcome.{Outcome as Kept}
-use Rattle.cv_valuation.specs.declared.outcome.Outcome.TheVariants.{Invalid}
 use Rattle.cv_valuation.specs.Valuations.{Values, outcome_at, outcome_tokens, with_outcome}
 use Rattle.cv_props.specs.declared.decls.Decl.{Decl}
 use Rattle.cv_props.specs.Registered.{Registered}
 use Rattle.cv_props.specs.Winners.{Declarations}
 use Rattle.cv_spec_valuation.specs.declared.place.Place.{Place}
-use Rattle.cv_spec_valuation.specs.Registered.{is_loose}
 use Rattle.cv_spec_valuation.specs.Element.{values_of}
 use Rattle.cv_spec_valuation.specs.Computed.{Faults, IsOnce, IsReported}
 use Rattle.cv_element.specs.declared.judging.Verdict.{Verdict}
@@ -28,7 +27,7 @@ use Rattle.cv_element.specs.declared.judging.Verdict.TheVariants.{Used, Refused,
 use Rattle.cv_element.specs.declared.settling.Settling.{Settling}
 use Rattle.cv_element.specs.Answers.{IsAnswer, is_counted}
 use Rattle.cv_element.specs.Judging.{verdict_after}
-use Rattle.cv_element.specs.Values.{AnElement, start_at}
+use Rattle.cv_element.specs.Values.{AnElement, start_at, invalid_at}
 
 -- the key at this place of the declarations
 abbrev pub key_in : Option (Key × Decl) → Key
@@ -48,10 +47,6 @@ value_at values name = outcome_tokens (outcome_at values (Custom name))
 -- what is loaded stands among the values
 abbrev pub IsLoaded : Runs → Values → Type 0
 IsLoaded runs values = (name : List ℕ) (list : List Token) → value_in runs name ≡ Some list → value_at values name ≡ Some list
-
--- what a property has where it is invalid
-abbrev pub invalid_at : Registered → Option Values → Key → Kept
-invalid_at registered parent key = if is_loose registered key then Invalid else start_at registered parent key
 
 abbrev pub value_for : Registered → Option Values → Key → Verdict → Kept
 value_for registered parent key (Used outcome) = outcome
@@ -74,6 +69,7 @@ range_after range key OutOfRange = first_of range key
 
 -- one more property is settled
 pub record Settles (registered : Registered) (parent : Option Values) (place : Place) (key : Key) (declared : List Token) (cyclic : Bool) (limit : ℕ) (s s' : Settling) : Type 0 where
+  pub checked : IsChecked declared
   pub loaded : IsLoaded s'.runs s.values
   pub more : (other : List ℕ) → (value_in s'.runs other ≡ value_in s.runs other) ⊎ ((cyclic ≡ false) × RefersTo (pieces_of declared) other)
   pub answer : Result (List Token) Reported

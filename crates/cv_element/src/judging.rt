@@ -1,15 +1,13 @@
 //! What a declaration comes to.
 
-ghost use Rattle.std.specs.Prelude.{◌≡◌, All, false, Option, Some, None, IfOk};
+ghost use Rattle.std.specs.Prelude.{◌≡◌, true, false, IfOk};
 ghost use Rattle.std.specs.Option.{option_copied};
-ghost use Rattle.cv_spec_text.specs.Splits.{IsSpelt};
-ghost use Rattle.cv_component.specs.Parts.{trim};
 ghost use Rattle.cv_var.specs.References.{has_var};
 ghost use Rattle.cv_spec_valuation.specs.Registered.{is_loose};
 ghost use Rattle.cv_spec_valuation.specs.Contexts.{reads_at};
-ghost use Rattle.cv_spec_valuation.specs.Computed.{MayStand, ParentStandsUnder};
+ghost use Rattle.cv_spec_valuation.specs.Computed.{ParentStandsUnder};
 ghost use Rattle.cv_valuation.specs.Keys.{is_key};
-ghost use Rattle.cv_element.specs.Judging.{IsBuilt, em_for, verdict_of, verdict_on, verdict_after, MayCome};
+ghost use Rattle.cv_element.specs.Judging.{em_for, verdict_of, verdict_on, verdict_after, MayCome};
 
 use crate::keywords::alone;
 use crate::reading::{read, size_above, size_of};
@@ -32,7 +30,7 @@ pub enum Verdict {
 
 // The size that `em` is where the property is read.
 fn em_for(parent: Option<&Valuation>, values: &Valuation, key: &Key) -> Frac
-    ensures { result ≡ em_for (option_copied parent) values.now key.now }
+    ensures { result ≡ em_for (option_copied parent.entry) values.now key.now }
 {
     let font_size = Key::Table(Property::FontSize);
     if *key == font_size {
@@ -52,9 +50,9 @@ fn judge_typed(
     trimmed: &Run,
     values: &Valuation,
 ) -> Result<Verdict, OutOfMemory>
+    requires key { is_key key.now ≡ true }
     requires firm { is_loose registry.now key.now ≡ false }
-    requires built { IsBuilt key.now }
-    ensures verdict { IfOk result (λ verdict. verdict ≡ verdict_of (reads_at registry.now (option_copied parent) at.now key.now (em_for (option_copied parent) values.now key.now) trimmed.now)) }
+    ensures verdict { IfOk result (λ verdict. verdict ≡ verdict_of (reads_at registry.now (option_copied parent.entry) at.now key.now (em_for (option_copied parent.entry) values.now key.now) trimmed.now)) }
     ensures kept { IfOk result (MayCome registry.now key.now) }
 {
     let em = em_for(parent, values, key);
@@ -77,7 +75,6 @@ pub fn judge(
 ) -> Result<Verdict, OutOfMemory>
     requires parent { ParentStandsUnder registry.now (option_copied parent) }
     requires key { is_key key.now ≡ true }
-    requires built { IsBuilt key.now }
     requires plain { has_var list ≡ false }
     ensures verdict { IfOk result (λ verdict. verdict ≡ verdict_on registry.now (option_copied parent.entry) at.now values.now key.now list) }
     ensures kept { IfOk result (MayCome registry.now key.now) }

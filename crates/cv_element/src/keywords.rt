@@ -35,7 +35,7 @@ fn named(name: &Name) -> Option<Keyword>
 }
 
 /// The keyword that the token is.
-pub fn keyword(token: &Token) -> Option<Keyword>
+pub fn keyword_of(token: &Token) -> Option<Keyword>
     ensures { option_map wide result ≡ keyword token.now }
 {
     match token {
@@ -49,7 +49,7 @@ pub fn alone(list: &[Token]) -> Option<Keyword>
     ensures { option_map wide result ≡ alone list.now }
 {
     match list {
-        [token] => keyword(token),
+        [token] => keyword_of(token),
         _ => None,
     }
 }

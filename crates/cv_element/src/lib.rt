@@ -8,7 +8,6 @@ mod held;
 mod judging;
 mod keywords;
 mod laws;
-mod order;
 mod planning;
 mod reading;
 mod refusal;
@@ -18,6 +17,6 @@ mod valuation;
 mod values;
 
 pub use cv_spec_valuation::Place;
-pub use laws::{elements_are_lawful, elements_have_one_result};
+pub use laws::elements_are_lawful;
 pub use refusal::ElemErr;
 pub use valuation::element;

@@ -4,16 +4,26 @@ ghost use Rattle.std.specs.Prelude.{◌≡◌, All, false, IfOk};
 ghost use Rattle.std.specs.Option.{option_copied};
 ghost use Rattle.cv_spec_text.specs.Splits.{IsSpelt};
 ghost use Rattle.cv_spec_valuation.specs.Registered.{is_loose};
-ghost use Rattle.cv_spec_valuation.specs.Contexts.{size_of, size_above, rem_of, context_of, reads_by, reads_at};
-ghost use Rattle.cv_numeric.specs.declared.matched.Matched.TheVariants.{No, Out, Fit};
+ghost use Rattle.cv_spec_valuation.specs.Contexts.{size_of, size_above, rem_of, context_of, typed_or, inherited_from, reads_by, reads_at};
+ghost use Rattle.cv_numeric.specs.declared.matched.Matched.TheVariants.{Fit};
+ghost use Rattle.cv_numeric.specs.Matched.{mapped};
+ghost use Rattle.cv_value.specs.declared.typed.Typed.{Typed};
+ghost use Rattle.cv_property.specs.Table.{initial_of};
+ghost use Rattle.cv_property.specs.Computed.{computed_of};
+ghost use Rattle.cv_property.specs.Grammar.{matching_property};
+ghost use Rattle.cv_valuation.specs.declared.key.Key.TheVariants.{Custom};
+ghost use Rattle.cv_value.specs.Kept.{MayBeKept};
+ghost use Rattle.cv_props.specs.Registered.{entry_of};
 
 use cv_calc::{Basis, Context};
 use cv_frac::Frac;
 use cv_numeric::Matched;
-use cv_props::{Entry, Key, Outcome, Property, Registry, Valuation};
-use cv_spec_text::{OutOfMemory, Token};
+use cv_props::{Key, Outcome, Property, Registry, Valuation};
+use cv_spec_text::{Name, OutOfMemory, Token};
 use cv_spec_valuation::Place;
 use cv_value::{Item, Typed, ValueErr, match_syntax};
+use cv_property_laws::properties_may_be_kept;
+use cv_value_laws::values_may_be_kept;
 use std::alloc::Global;
 
 /// The size that a value of `font-size` is.
@@ -28,7 +38,7 @@ pub fn size_of(outcome: &Outcome) -> Frac
 
 /// The parent's font size; on the root the initial one.
 pub fn size_above(parent: Option<&Valuation>) -> Frac
-    ensures { result ≡ size_above (option_copied parent) }
+    ensures { result ≡ size_above (option_copied parent.entry) }
 {
     match parent {
         Some(values) => size_of(values.get(&Key::Table(Property::FontSize))),
@@ -68,18 +78,43 @@ fn read_custom(
     requires firm { is_loose registry.now (Custom name.now) ≡ false }
     requires spelt { All IsSpelt tokens.now }
     ensures read { IfOk result (λ m. m ≡ reads_by (entry_of registry.now name.now) x.now tokens.now) }
-    ensures kept { IfOk result (λ m. (v : Typed) → m ≡ Fit v → IsKeptValue v) }
+    ensures kept { IfOk result (λ m. (v : Typed) → m ≡ Fit v → MayBeKept v) }
 {
-    items_are_free();
-    texts_are_spelt();
+    values_may_be_kept();
     match registry.get(name) {
         Some(entry) => match match_syntax(alloc, &entry.syntax, tokens, x) {
             Ok(value) => Ok(Matched::Fit(value)),
             Err(ValueErr::Mismatch) => Ok(Matched::No),
             Err(ValueErr::Range) => Ok(Matched::Out),
-            Err(ValueErr::Memory) => Err(OutOfMemory {}),
+            Err(ValueErr::Memory) => Err(OutOfMemory),
         },
         None => Ok(Matched::No),
+    }
+}
+
+// The typed value that the outcome is, and the other where it is none.
+fn typed_or<'a>(other: &'a Typed, outcome: &'a Outcome) -> &'a Typed
+    ensures { result.now ≡ typed_or other.now outcome.now }
+{
+    match outcome {
+        Outcome::Value(value) => value,
+        _ => other,
+    }
+}
+
+// The value that an ordinary property inherits.
+fn inherited<'a>(
+    parent: Option<&'a Valuation>,
+    property: Property,
+    initial: &'a Typed,
+) -> &'a Typed
+    requires initial { initial.now ≡ initial_of property }
+    ensures inherited { result.now ≡ inherited_from (option_copied parent.entry) property }
+    ensures kept { MayBeKept initial.now → MayBeKept result.now }
+{
+    match parent {
+        Some(values) => typed_or(initial, values.get(&Key::Table(property))),
+        None => initial,
     }
 }
 
@@ -92,15 +127,16 @@ fn read_table(
     x: &Context,
 ) -> Result<Matched<Typed>, OutOfMemory>
     requires spelt { All IsSpelt tokens.now }
-    requires built { property ≡ FontSize }
-    ensures read { IfOk result (λ m. m ≡ mapped (computed_of property (inherited_from (option_copied parent) property)) (matching_property property x.now tokens.now)) }
-    ensures kept { IfOk result (λ m. (v : Typed) → m ≡ Fit v → IsKeptValue v) }
+    ensures read { IfOk result (λ m. m ≡ mapped (computed_of property (inherited_from (option_copied parent.entry) property)) (matching_property property x.now tokens.now)) }
+    ensures kept { IfOk result (λ m. (v : Typed) → m ≡ Fit v → MayBeKept v) }
 {
-    match property.read(alloc, tokens, x) {
-        Ok(value) => Ok(Matched::Fit(computed(value))),
+    properties_may_be_kept();
+    let initial = property.initial(alloc)?;
+    match property.compute(alloc, tokens, x, inherited(parent, property, &initial)) {
+        Ok(value) => Ok(Matched::Fit(value)),
         Err(ValueErr::Mismatch) => Ok(Matched::No),
         Err(ValueErr::Range) => Ok(Matched::Out),
-        Err(ValueErr::Memory) => Err(OutOfMemory {}),
+        Err(ValueErr::Memory) => Err(OutOfMemory),
     }
 }
 
@@ -116,9 +152,8 @@ pub fn read(
 ) -> Result<Matched<Typed>, OutOfMemory>
     requires firm { is_loose registry.now key.now ≡ false }
     requires spelt { All IsSpelt tokens.now }
-    requires built { IsBuilt key.now }
-    ensures read { IfOk result (λ m. m ≡ reads_at registry.now (option_copied parent) at.now key.now em tokens.now) }
-    ensures kept { IfOk result (λ m. (v : Typed) → m ≡ Fit v → IsKeptValue v) }
+    ensures read { IfOk result (λ m. m ≡ reads_at registry.now (option_copied parent.entry) at.now key.now em tokens.now) }
+    ensures kept { IfOk result (λ m. (v : Typed) → m ≡ Fit v → MayBeKept v) }
 {
     let x = context_of(at, em);
     match key {

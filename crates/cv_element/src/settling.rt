@@ -6,23 +6,23 @@ ghost use Rattle.cv_spec_element.specs.Pieces.{RefersTo, sub};
 ghost use Rattle.cv_var.specs.References.{pieces_of, has_var};
 ghost use Rattle.cv_subst.specs.Values.{value_in};
 ghost use Rattle.cv_valuation.specs.Keys.{is_key};
-ghost use Rattle.cv_valuation.specs.Valuations.{MayKeep, with_outcome};
-ghost use Rattle.cv_spec_valuation.specs.Computed.{StandUnder, ParentStandsUnder};
+ghost use Rattle.cv_valuation.specs.Valuations.{with_outcome};
+ghost use Rattle.cv_spec_valuation.specs.Computed.{MayStand, StandUnder, ParentStandsUnder};
 ghost use Rattle.cv_element.specs.Answers.{IsAnswer, is_counted};
-ghost use Rattle.cv_element.specs.Judging.{IsBuilt, verdict_after, MayCome};
-ghost use Rattle.cv_element.specs.Settling.{IsLoaded, value_at, value_for, invalid_at, faults_after, first_of, range_after, Settles};
+ghost use Rattle.cv_element.specs.Judging.{verdict_after, MayCome};
+ghost use Rattle.cv_element.specs.Settling.{IsLoaded, value_at, value_for, faults_after, first_of, range_after, Settles};
 
 use crate::answers::answer;
 use crate::judging::{Verdict, judge};
 use crate::keywords::Keyword;
 use crate::refusal::ElemErr;
-use crate::values::{is_loose, keyword_value};
+use crate::values::{invalid_value, keyword_value};
 use cv_props::{Cause, Key, Outcome, Registry, Valuation, outcomes_are_by_key, properties_are_found};
 use cv_spec_text::{Name, OutOfMemory, Run};
 use cv_spec_valuation::Place;
 use cv_subst::Runs;
 use cv_value::typed_tokens;
-use cv_value_laws::texts_are_spelt;
+use cv_value_laws::{values_are_taken, values_may_be_kept};
 use cv_var::Declared;
 use sqlite_items::Items;
 use std::alloc::Global;
@@ -51,7 +51,7 @@ fn load_one(
     ensures here { OnOk result (value_in runs.new name.now ≡ value_at values.now name.now) }
     ensures others { OnOk result ((other : List ℕ) → other ≢ name.now → value_in runs.new other ≡ value_in runs.old other) }
 {
-    texts_are_spelt();
+    values_may_be_kept();
     if runs.get(name).is_some() {
         return Ok(());
     }
@@ -142,30 +142,23 @@ fn answer_for(
     answer_loaded(alloc, key, declared, limit, values, runs)
 }
 
-// What the property has where it is invalid: a loose one the guaranteed-invalid value, any other what it has undeclared.
-fn invalid_value(
-    alloc: Global,
-    registry: &Registry,
-    parent: Option<&Valuation>,
-    key: &Key,
-) -> Result<Outcome, OutOfMemory>
-    ensures { IfOk result (λ outcome. outcome ≡ invalid_at registry.now (option_copied parent) key.now) }
-{
-    if is_loose(registry, key) {
-        Ok(Outcome::Invalid)
-    } else {
-        keyword_value(alloc, registry, parent, key, Keyword::Unset)
-    }
-}
-
 // The property has this outcome.
-fn put(key: Key, outcome: Outcome, settling: &mut Settling) -> Result<(), OutOfMemory>
-    requires { MayKeep key outcome }
+fn put(
+    registry: &Registry,
+    key: Key,
+    outcome: Outcome,
+    settling: &mut Settling,
+) -> Result<(), OutOfMemory>
+    requires comes { MayStand registry.now key outcome }
+    requires stand { StandUnder registry.now settling.old.values }
     ensures values { OnOk result (settling.new.values ≡ with_outcome settling.old.values key outcome) }
+    ensures stand { OnOk result (StandUnder registry.now settling.new.values) }
     ensures runs { settling.new.runs ≡ settling.old.runs }
     ensures faults { settling.new.faults ≡ settling.old.faults }
     ensures range { settling.new.range ≡ settling.old.range }
 {
+    outcomes_are_by_key();
+    properties_are_found();
     settling.values.put(key, outcome)
 }
 
@@ -210,18 +203,16 @@ fn keep(
     ensures runs { OnOk result (settling.new.runs ≡ settling.old.runs) }
     ensures stand { OnOk result (StandUnder registry.now settling.new.values) }
 {
-    outcomes_are_by_key();
-    properties_are_found();
     match verdict {
-        Verdict::Used(outcome) => put(key.copy()?, outcome, settling),
+        Verdict::Used(outcome) => put(registry, key.copy()?, outcome, settling),
         Verdict::Refused(cause) => {
             let value = invalid_value(alloc, registry, parent, key)?;
-            put(key.copy()?, value, settling)?;
+            put(registry, key.copy()?, value, settling)?;
             blame(key.copy()?, cause, settling)
         }
         Verdict::OutOfRange => {
             let value = keyword_value(alloc, registry, parent, key, Keyword::Unset)?;
-            put(key.copy()?, value, settling)?;
+            put(registry, key.copy()?, value, settling)?;
             remember(key.copy()?, settling);
             Ok(())
         }
@@ -240,7 +231,6 @@ fn judge_answer(
 ) -> Result<Verdict, OutOfMemory>
     requires parent { ParentStandsUnder registry.now (option_copied parent) }
     requires key { is_key key.now ≡ true }
-    requires built { IsBuilt key.now }
     requires plain { IfOk answer (λ list. has_var list ≡ false) }
     ensures verdict { IfOk result (λ verdict. verdict ≡ verdict_after registry.now (option_copied parent.entry) at.now values.now key.now answer) }
     ensures kept { IfOk result (MayCome registry.now key.now) }
@@ -267,14 +257,14 @@ pub fn settle(
     requires most { limit ≤ 32768 }
     requires parent { ParentStandsUnder registry.now (option_copied parent) }
     requires key { is_key key.now ≡ true }
-    requires built { IsBuilt key.now }
     requires loaded { IsLoaded settling.old.runs settling.old.values }
     requires stand { StandUnder registry.now settling.old.values }
     ensures settles { OnOk result (Settles registry.now (option_copied parent.entry) at.now key.now declared.now is_cyclic limit settling.old settling.new) }
     ensures stand { OnOk result (StandUnder registry.now settling.new.values) }
 {
-    // no token of its pieces is a `var(`
+    // no token of its pieces is a `var(`, nor of the text of a typed value
     declared.tokens();
+    values_are_taken();
     let answer = answer_for(
         alloc,
         key,

@@ -3,12 +3,13 @@
 ghost use Rattle.std.specs.Prelude.{◌≡◌, IfOk};
 ghost use Rattle.std.specs.Option.{option_copied};
 ghost use Rattle.cv_spec_element.specs.Keywords.{by_keyword, inherited};
-ghost use Rattle.cv_spec_valuation.specs.Registered.{is_loose, inherits, has_lengths, initial_at};
-ghost use Rattle.cv_spec_valuation.specs.Computed.{MayStand, ParentStandsUnder};
+ghost use Rattle.cv_spec_valuation.specs.Registered.{is_loose, inherits, initial_at};
 ghost use Rattle.cv_element.specs.Keywords.{wide};
-ghost use Rattle.cv_element.specs.Values.{held_by};
+ghost use Rattle.cv_spec_valuation.specs.Computed.{MayStand, ParentStandsUnder};
+ghost use Rattle.cv_element.specs.Values.{held_by, invalid_at};
 
 use crate::keywords::Keyword;
+use cv_property_laws::properties_may_be_kept;
 use cv_props::{Key, Outcome, Registry, Valuation};
 use cv_spec_text::OutOfMemory;
 use cv_syntax::Syntax;
@@ -46,8 +47,7 @@ pub fn initial_value(
     registry: &Registry,
     key: &Key,
 ) -> Result<Outcome, OutOfMemory>
-    ensures outcome { IfOk result (λ outcome. outcome ≡ initial_at registry.now key.now) }
-    ensures stands { MayStand registry.now key.now (initial_at registry.now key.now) }
+    ensures { IfOk result (λ outcome. outcome ≡ initial_at registry.now key.now) }
 {
     match key {
         Key::Custom(name) => match registry.get(name) {
@@ -65,7 +65,7 @@ fn inherited_value(
     parent: Option<&Valuation>,
     key: &Key,
 ) -> Result<Outcome, OutOfMemory>
-    ensures { IfOk result (λ outcome. outcome ≡ inherited (initial_at registry.now key.now) (held_by (option_copied parent) key.now)) }
+    ensures { IfOk result (λ outcome. outcome ≡ inherited (initial_at registry.now key.now) (held_by (option_copied parent.entry) key.now)) }
 {
     match parent {
         Some(values) => values.get(key).copy(alloc),
@@ -73,15 +73,15 @@ fn inherited_value(
     }
 }
 
-/// What a CSS-wide keyword gives the property.
-pub fn keyword_value(
+// What a CSS-wide keyword gives the property.
+fn given_value(
     alloc: Global,
     registry: &Registry,
     parent: Option<&Valuation>,
     key: &Key,
     keyword: Keyword,
 ) -> Result<Outcome, OutOfMemory>
-    ensures { IfOk result (λ outcome. outcome ≡ by_keyword (initial_at registry.now key.now) (held_by (option_copied parent) key.now) (inherits registry.now key.now) (wide keyword)) }
+    ensures { IfOk result (λ outcome. outcome ≡ by_keyword (initial_at registry.now key.now) (held_by (option_copied parent.entry) key.now) (inherits registry.now key.now) (wide keyword)) }
 {
     match keyword {
         Keyword::Initial => initial_value(alloc, registry, key),
@@ -94,4 +94,53 @@ pub fn keyword_value(
             }
         }
     }
+}
+
+/// What a CSS-wide keyword gives the property.
+pub fn keyword_value(
+    alloc: Global,
+    registry: &Registry,
+    parent: Option<&Valuation>,
+    key: &Key,
+    keyword: Keyword,
+) -> Result<Outcome, OutOfMemory>
+    requires parent { ParentStandsUnder registry.now (option_copied parent) }
+    ensures outcome { IfOk result (λ outcome. outcome ≡ by_keyword (initial_at registry.now key.now) (held_by (option_copied parent.entry) key.now) (inherits registry.now key.now) (wide keyword)) }
+    ensures stands { IfOk result (MayStand registry.now key.now) }
+{
+    properties_may_be_kept();
+    registry.len();
+    given_value(alloc, registry, parent, key, keyword)
+}
+
+// What the property has where it is invalid, as it stands.
+fn refused_value(
+    alloc: Global,
+    registry: &Registry,
+    parent: Option<&Valuation>,
+    key: &Key,
+) -> Result<Outcome, OutOfMemory>
+    ensures { IfOk result (λ outcome. outcome ≡ invalid_at registry.now (option_copied parent.entry) key.now) }
+{
+    if is_loose(registry, key) {
+        Ok(Outcome::Invalid)
+    } else {
+        given_value(alloc, registry, parent, key, Keyword::Unset)
+    }
+}
+
+/// What the property has where it is invalid: a loose one the guaranteed-invalid value, any other what it has undeclared.
+pub fn invalid_value(
+    alloc: Global,
+    registry: &Registry,
+    parent: Option<&Valuation>,
+    key: &Key,
+) -> Result<Outcome, OutOfMemory>
+    requires parent { ParentStandsUnder registry.now (option_copied parent) }
+    ensures outcome { IfOk result (λ outcome. outcome ≡ invalid_at registry.now (option_copied parent.entry) key.now) }
+    ensures stands { IfOk result (MayStand registry.now key.now) }
+{
+    properties_may_be_kept();
+    registry.len();
+    refused_value(alloc, registry, parent, key)
 }

@@ -1,5 +1,5 @@
 -- The items and rules of a list are no more than its tokens, and the blocks of rules hold only tokens that are spelt where the list's are.
-use Rattle.std.proofs.Common.{◌≡◌, ℕ, suc, zero, pred, ◌≤◌, Bool, true, false, List, [], ◌∷◌, ◌++◌, length, take, drop, Some, None, refl, arith}
+use Rattle.std.proofs.Common.{ℕ, suc, zero, pred, ◌≤◌, Bool, true, false, List, [], ◌∷◌, ◌++◌, length, take, drop, Some, None, arith}
 use Rattle.std.specs.Prelude.{All, if◌then◌else◌}
 use Rattle.std.proofs.lemmas.List.Elements.{All-nil, All-cons, All-tail, All-append, All-take, All-drop}
 use Rattle.cv_spec_text.specs.Runs.{run_values, run_values_within, these_if}

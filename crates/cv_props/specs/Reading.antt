@@ -4,8 +4,6 @@ use Rattle.cv_spec_text.specs.Splits.{IsSpelt}
 use Rattle.cv_component.specs.declared.items.Piece.{Piece}
 use Rattle.cv_component.specs.declared.sheet.Rule.{Rule}
 use Rattle.cv_component.specs.declared.sheet.Rule.TheVariants as rules
-use Rattle.cv_props.specs.declared.decls.Decl.{Decl}
-use Rattle.cv_valuation.specs.declared.key.Key.{Key}
 use Rattle.cv_props.specs.declared.note.Why.{Why}
 use Rattle.cv_props.specs.declared.refusal.Refusal.{Refusal}
 use Rattle.cv_props.specs.declared.refusal.Refusal.TheVariants.{Ignored, Memory}

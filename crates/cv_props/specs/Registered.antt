@@ -13,6 +13,9 @@ use Rattle.cv_value.specs.Kept.{MayBeKept}
 use Rattle.cv_value_laws.specs.Values.{is_keyword}
 use Rattle.cv_valuation.specs.declared.outcome.Outcome.{Outcome}
 use Rattle.cv_valuation.specs.declared.outcome.Outcome.TheVariants.{Tokens, Value, Invalid}
+use Rattle.cv_valuation.specs.declared.key.Key.{Key}
+use Rattle.cv_valuation.specs.Starts.{table_initial}
+use Rattle.cv_valuation.specs.Valuations.{Values, outcome_at}
 use Rattle.cv_props.specs.declared.entry.Entry.{Entry}
 
 -- names and what is registered of them, in the order in which the names were first registered
@@ -51,3 +54,7 @@ IsRegistered (name, entry) = IsEntry name entry
 -- each name has such an entry
 abbrev pub AreEntries : Registered → Type 0
 AreEntries registered = (name : List ℕ) (entry : Entry) → entry_of registered name ≡ Some entry → IsEntry name entry
+
+-- the values are the initial ones of ordinary properties
+abbrev pub IsTable : Values → Type 0
+IsTable values = (key : Key) → outcome_at values key ≡ table_initial key

@@ -1,6 +1,6 @@
 -- The rules of a sheet: what they register, and notes on those that are ignored (CSS Syntax 3, "Parse a stylesheet"; Properties and Values
 -- API 1, "The @property Rule").
-use Rattle.std.specs.Prelude.{ℕ, if◌then◌else◌, List, [], ◌∷◌, bytes_eq, map, Option, Some, None, Result, Ok, Err}
+use Rattle.std.specs.Prelude.{ℕ, fold, if◌then◌else◌, List, [], ◌∷◌, bytes_eq, map, Option, Some, None, Result, Ok, Err}
 use Rattle.std.specs.List.{enumerate_from, filter_map, flat_map}
 use Rattle.std.specs.Map.{keys_of}
 use Rattle.indexmap.specs.IndexMap.{insert_entry}
@@ -41,3 +41,7 @@ notes_on_rules x all = flat_map (λ (number, rule). ignored number (registration
 abbrev pub with_registration : Registered → Result (List ℕ × Entry) Why → Registered
 with_registration all (Ok (name, entry)) = insert_entry bytes_eq all name entry
 with_registration all (Err why) = all
+
+-- what the rules register, one rule after another
+abbrev pub registry_of : Context → List Rule → Registered
+registry_of x all = fold (λ some rule. with_registration some (registration x rule)) [] all

@@ -9,8 +9,11 @@ ghost use Rattle.cv_spec_text.specs.Splits.{IsSpelt};
 ghost use Rattle.cv_component.specs.Rules.{rules};
 ghost use Rattle.cv_props.specs.Reading.{IsSpeltRule};
 ghost use Rattle.cv_props.specs.Registered.{AreEntries, IsEntry, IsRegistered, entry_of};
+ghost use Rattle.cv_valuation.specs.declared.key.Key as keys;
+ghost use Rattle.cv_valuation.specs.Starts.{table_initial};
+ghost use Rattle.cv_valuation.specs.Valuations.{outcome_at};
 ghost use Rattle.cv_props.specs.Registration.{registration, viewport};
-ghost use Rattle.cv_props.specs.Sheets.{ignored, notes_on_rules, registered, registered_names, with_registration};
+ghost use Rattle.cv_props.specs.Sheets.{ignored, notes_on_rules, registered, registered_names, registry_of, with_registration};
 
 use crate::entry::Entry;
 use crate::note::{Note, NotePlace};
@@ -19,20 +22,23 @@ use crate::registration::{read_rule, viewport};
 use cv_calc::Context;
 use cv_component::{Rule, rules};
 use cv_spec_text::{Name, Token};
+use cv_valuation::Valuation;
 use indexmap::IndexMap;
 use std::alloc::{AllocError, Global};
 use std::marker::Model;
 
 /// The registered custom properties, in the order in which their names were first registered (Properties and Values API 1, "The
-/// @property Rule"). Contracts see the list of names and entries, in which each name stands once.
+/// @property Rule"), beside the initial values of the ordinary ones. Contracts see the list of names and entries, in which each name
+/// stands once.
 #[derive(Drop)]
 pub struct Registry {
     entries: IndexMap<Name, Entry>,
+    table: Valuation,
 }
 
 impl Model for Registry {
     ghost use Rattle.std.specs.Prelude.{All};
-    ghost use Rattle.cv_props.specs.Registered.{IsRegistered, Registered};
+    ghost use Rattle.cv_props.specs.Registered.{IsRegistered, IsTable, Registered};
 
     ghost Value = { Registered };
 
@@ -43,7 +49,7 @@ impl Model for Registry {
 
     ghost view = { λ registry. registry.entries.entries };
 
-    ghost invariant = { λ registry. All IsRegistered registry.entries.entries };
+    ghost invariant = { λ registry. All IsRegistered registry.entries.entries × IsTable registry.table };
 }
 
 impl Registry {
@@ -59,6 +65,7 @@ impl Registry {
         requires few { length tokens.now < 4294967288 }
         ensures entries { IfOk result (λ sheet. (name : List ℕ) → entry_of sheet.0 name ≡ registered (viewport width height) (rules tokens.now) name) }
         ensures order { IfOk result (λ sheet. keys_of sheet.0 ≡ registered_names (viewport width height) (rules tokens.now)) }
+        ensures registry { IfOk result (λ sheet. sheet.0 ≡ registry_of (viewport width height) (rules tokens.now)) }
         ensures notes { IfOk result (λ sheet. sheet.1.items ≡ notes_on_rules (viewport width height) (rules tokens.now)) }
         ensures valid { IfOk result (λ sheet. AreEntries sheet.0) }
     {
@@ -92,12 +99,20 @@ impl Registry {
         self.entries.get_index(place).unwrap()
     }
 
+    /// The initial value of each ordinary property; each custom one is invalid.
+    pub fn table(&self) -> &Valuation
+        ensures { (key : keys.Key) → outcome_at result.now key ≡ table_initial key }
+    {
+        &self.table
+    }
+
     /// The same registry again.
     pub fn copy(&self) -> Result<Self, AllocError>
         ensures { IfOk result (λ registry. registry ≡ self.now) }
     {
         Ok(Registry {
             entries: copied(&self.entries)?,
+            table: self.table.copy()?,
         })
     }
 }
@@ -126,6 +141,7 @@ fn of_rules(alloc: Global, x: &Context, all: &[Rule]) -> Result<(Registry, Vec<N
     requires few { length all.now < 4294967288 }
     ensures entries { IfOk result (λ sheet. (name : List ℕ) → entry_of sheet.0 name ≡ registered x.now all.now name) }
     ensures order { IfOk result (λ sheet. keys_of sheet.0 ≡ registered_names x.now all.now) }
+    ensures registry { IfOk result (λ sheet. sheet.0 ≡ registry_of x.now all.now) }
     ensures notes { IfOk result (λ sheet. sheet.1.items ≡ notes_on_rules x.now all.now) }
     ensures valid { IfOk result (λ sheet. AreEntries sheet.0) }
 {
@@ -134,7 +150,8 @@ fn of_rules(alloc: Global, x: &Context, all: &[Rule]) -> Result<(Registry, Vec<N
     for (number, rule) in all.iter().enumerate() {
         add_rule(alloc, x, number as u32, rule, &mut entries, &mut notes)?;
     }
-    Ok((Registry { entries }, notes))
+    let table = Valuation::initial(alloc)?;
+    Ok((Registry { entries, table }, notes))
 }
 
 // Keeps what the rule registers, or notes why it is ignored.

@@ -10,8 +10,8 @@ use Rattle.cv_valuation.specs.declared.key.Key.{Key}
 use Rattle.cv_valuation.specs.Keys.{same_key}
 use Rattle.cv_valuation.specs.TableLaws.{PropertiesAreFound}
 use Rattle.cv_report.specs.Report.{cause_of, element_text, elements_text, value_lines}
-use Rattle.cv_element.specs.Element.{Faults, IsOnce}
-use Rattle.cv_element.specs.Single.{TellsTheSame}
+use Rattle.cv_spec_valuation.specs.Computed.{Faults, IsOnce}
+use Rattle.cv_spec_valuation.specs.Single.{TellsTheSame}
 use Rattle.cv_run.proofs.Keys.{key_same_itself, keys_same}
 
 held-cons : {X : Type 0} (x : X) (xs : List X) (y : X) → Contains (x ∷ xs) y → (x ≡ y) ⊎ Contains xs y

@@ -1,4 +1,3 @@
-pub mod Building
 pub mod Fates
 pub mod Names
 pub mod Outcome

@@ -1,12 +1,13 @@
 //! The top call.
 
-ghost use Rattle.std.specs.Prelude.{◌≡◌, ◌≤◌, ◌⊎◌, IfSome, IfOk, IfErr, length};
+ghost use Rattle.std.specs.Prelude.{◌≡◌, ◌≤◌, ◌⊎◌, ℕ, IfSome, IfOk, IfErr, length};
 ghost use Rattle.std.specs.Io.KnownBytes.{Appends, IsAtEnd, Keeps};
 ghost use Rattle.cv_io.specs.Causes.{Rose};
 ghost use Rattle.cv_io.specs.Streams.{TookPrefix};
 ghost use Rattle.cv_words.specs.Words.{IsRefused, texts_of};
-ghost use Rattle.cv_run.specs.Fates.{IsTooLarge, fate_of, malformed, too_large, unbuilt};
-ghost use Rattle.cv_run.specs.Outcome.{AreRead, ComesOf, EndsAs, HasAllButMemory, HasWritten, HasWrittenFront, IsCutShort, IsSound, TellsOfDocument, WritesNothing};
+ghost use Rattle.cv_run.specs.Fates.{IsTooLarge, fate_of, malformed, too_large};
+ghost use Rattle.cv_run.specs.Outcome.{AreRead, ComesOf, EndsAs, HasAllButMemory, HasWritten, HasWrittenFront, IsOutOfRange, IsSound, TellsOfDocument, WritesNothing};
+ghost use Rattle.cv_valuation.specs.declared.key.Key as keys;
 ghost use Rattle.cv_run.specs.StatusLines.{line_of};
 ghost use Rattle.cv_run.specs.Telling.{EndsEarly, IsOversized, IsStopped, TellsOf, text_of};
 
@@ -40,22 +41,25 @@ pub fn run<S: Source, O: Sink, E: Sink>(
     ensures too_large { (what : What) → result ≡ Status.TooLarge what → IfSome (S.left src.old) (λ given. fate_of given ≡ too_large what) }
     ensures parts { (what : What) → result ≡ Status.TooLarge what → IfSome (S.left src.old) (λ given. IsTooLarge given what) }
     ensures malformed { (why : BadDoc) → result ≡ Status.Malformed why → IfSome (S.left src.old) (λ given. fate_of given ≡ malformed why) }
-    ensures unbuilt { result ≡ Status.Unbuilt → IfSome (S.left src.old) (λ given. fate_of given ≡ unbuilt) }
+    ensures range { (element : ℕ) (property : keys.Key) → result ≡ Status.Range element property → IfSome (S.left src.old)
+        (λ given. IsOutOfRange (texts_of words.now.items) given element property) }
     ensures write_fault { result ≡ Status.WriteFault → Rose (O.faults out.old) (O.faults out.new) }
 
     // What tells of a document comes only once the input was read to its end.
     ensures read_whole { TellsOfDocument result → IsAtEnd (S.left src.new) }
 
-    // Where a run isn't done, `out` took nothing, or at a fault of writing and for want of memory a front of the report.
+    // Where a run isn't done, `out` took nothing, or at a fault of writing a front of the report, and for want of memory either.
     ensures untouched { WritesNothing result → Keeps (O.taken out.old) (O.taken out.new) }
-    ensures cut_short { IsCutShort result → IfSome (S.left src.old)
+    ensures cut_short { result ≡ Status.WriteFault → IfSome (S.left src.old)
         (λ given. HasWrittenFront (texts_of words.now.items) given (O.taken out.old) (O.taken out.new)) }
+    ensures no_memory { result ≡ Status.NoMemory → IfSome (S.left src.old)
+        (λ given. Keeps (O.taken out.old) (O.taken out.new) ⊎ HasWrittenFront (texts_of words.now.items) given (O.taken out.old) (O.taken out.new)) }
 
     // Words that are taken and a source that doesn't fail give what comes of the input, and nothing else.
     ensures refuses { IsSound (texts_of words.now.items) (Rose (S.faults src.old) (S.faults src.new))
         → IfSome (S.left src.old) (λ given. ComesOf (fate_of given) result) }
 
-    // Words that are taken, streams that don't fail and an input that is computed give `Done`.
+    // Words that are taken, streams that don't fail and an input that is computed, with no property out of range, give `Done`.
     ensures complete { HasAllButMemory (texts_of words.now.items) (S.left src.old)
         (Rose (S.faults src.old) (S.faults src.new)) (Rose (O.faults out.old) (O.faults out.new))
         → (result ≡ Status.Done) ⊎ (result ≡ Status.NoMemory) }
@@ -64,7 +68,7 @@ pub fn run<S: Source, O: Sink, E: Sink>(
     ensures line { TookPrefix (E.taken err.old) (E.taken err.new) (line_of result) }
 {
     let status = answer(alloc, words, src, out);
-    let _ = status.put_line(err);
+    let _ = status.put_line(alloc, err);
     status
 }
 
@@ -91,7 +95,7 @@ fn prepare<S: Source>(alloc: Global, src: &mut S, limit: u32) -> Result<Report, 
     ensures tells { IfOk result (λ report. IfSome (S.left src.old) (λ given. TellsOf (fate_of given) limit report)) }
     ensures few { IfOk result (λ report. length report.all.items ≤ 16384) }
     ensures read_whole { IfOk result (λ report. IsAtEnd (S.left src.new)) }
-    ensures refused { IfErr result (λ status. IsStopped (S.left src.old) (Rose (S.faults src.old) (S.faults src.new)) status) }
+    ensures refused { IfErr result (IsStopped (S.left src.old) limit (Rose (S.faults src.old) (S.faults src.new))) }
     ensures parts { IfErr result (λ status. IsOversized (S.left src.old) status) }
     ensures early { IfErr result EndsEarly }
     ensures read_before { IfErr result (λ status. TellsOfDocument status → IsAtEnd (S.left src.new)) }
@@ -109,7 +113,8 @@ fn prepare<S: Source>(alloc: Global, src: &mut S, limit: u32) -> Result<Report, 
 fn write_report<O: Sink>(alloc: Global, prepared: &Report, out: &mut O) -> Status
     requires { length prepared.now.all.items ≤ 16384 }
     ensures done { result ≡ Status.Done → Appends (O.taken out.old) (O.taken out.new) (text_of prepared.now) }
-    ensures cut_short { IsCutShort result → TookPrefix (O.taken out.old) (O.taken out.new) (text_of prepared.now) }
+    ensures cut_short { result ≡ Status.WriteFault → TookPrefix (O.taken out.old) (O.taken out.new) (text_of prepared.now) }
+    ensures no_memory { result ≡ Status.NoMemory → TookPrefix (O.taken out.old) (O.taken out.new) (text_of prepared.now) }
     ensures write_fault { result ≡ Status.WriteFault → Rose (O.faults out.old) (O.faults out.new) }
     ensures others { (result ≡ Status.Done) ⊎ (result ≡ Status.WriteFault) ⊎ (result ≡ Status.NoMemory) }
 {

@@ -5,7 +5,7 @@ use Rattle.cv_spec_text.specs.declared.token.Token.{Token}
 use Rattle.cv_syntax.specs.declared.syntax.Syntax.{Syntax}
 use Rattle.cv_syntax.specs.declared.syntax.Syntax.TheVariants.{Any, Of}
 use Rattle.cv_value.specs.declared.typed.Typed.{Typed}
-use Rattle.cv_value_laws.specs.Contexts.{has_no_length}
+use Rattle.cv_syntax.specs.Told.{has_no_length}
 use Rattle.cv_property.specs.Table as table
 use Rattle.cv_spec_element.specs.Element.{Outcome, tokens, typed, invalid}
 use Rattle.cv_valuation.specs.declared.key.Key.{Key}

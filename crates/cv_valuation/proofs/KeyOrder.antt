@@ -7,8 +7,7 @@ use Rattle.std.specs.Ordering.{eq_by_cmp}
 use Rattle.std.proofs.lemmas.Map.Text.{is_eq-slice_cmp}
 use Rattle.cv_valuation.specs.declared.key.Key.{Key}
 use Rattle.cv_valuation.specs.declared.key.Key.TheVariants.{Custom, Table}
-use Rattle.cv_property.specs.declared.property.Property.{Property}
-use Rattle.cv_property.specs.Table.{number_of, numbered}
+use Rattle.cv_property.specs.Table.{number_of}
 use Rattle.cv_valuation.specs.Keys.{code_of, key_cmp, same_key}
 use Rattle.cv_valuation.specs.KeyLaws.{same_code}
 use Rattle.cv_property.specs.Numbers.{same_number}

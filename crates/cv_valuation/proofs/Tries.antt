@@ -1,24 +1,22 @@
 -- What is found in a tree, and the values that it gives.
-use Rattle.std.proofs.Common.{◌≡◌, ℕ, ◌/◌, ◌%◌, Bool, true, false, cond, List, [], ◌∷◌, ◌++◌, Option, Some, None, refl, sym, ap, ◌∙◌, subst, unwrap_or, arith}
+use Rattle.std.proofs.Common.{◌≡◌, ℕ, ◌/◌, ◌%◌, Bool, true, false, cond, List, [], ◌∷◌, ◌++◌, Option, Some, None, refl, sym, ap, ◌∙◌, subst, arith}
 use Rattle.std.specs.Prelude.{◌||◌, ◌==◌, Result, Ok, Err, IfOk, map as each}
-use Rattle.std.specs.FinMap as map
 use Rattle.std.proofs.lemmas.Bool.Decides.{nat_tests}
 use Rattle.cv_valuation.specs.declared.key.Key.{Key}
 use Rattle.cv_valuation.specs.declared.outcome.Outcome.{Outcome}
 use Rattle.cv_valuation.specs.declared.outcome.Outcome.TheVariants.{Invalid}
 use Rattle.cv_valuation.specs.declared.trie.Trie.{Trie, Leaf, Fork'}
 use Rattle.cv_valuation.specs.Keys.{same_key}
-use Rattle.cv_valuation.specs.Valuations.{MayKeep, outcome_of, outcome_at, with_outcome}
-use Rattle.cv_valuation.specs.Tries.{found, found_at, path_of, keys_in, outcome_in, entries_in, values_in, AreKeptIn, IsFork, FindsTheSame, Sets}
-use Rattle.cv_valuation.proofs.KeyOrder.{equal_keys, key_cmp_total, key_cmp_antisymmetric}
-use Rattle.cv_valuation.proofs.Outcomes.{kept_of, first_kept, get-with_outcome, get-valuation_of, outcome_of-kept_of}
+use Rattle.cv_valuation.specs.Tries.{found, found_at, path_of, keys_in, IsFork, FindsTheSame, Sets}
+use Rattle.cv_valuation.proofs.KeyOrder.{equal_keys}
+use Rattle.cv_valuation.proofs.Outcomes.{kept_of, first_kept}
 
 -- whether the key is among these
-abbrev has : Key → List Key → Bool
+abbrev pub has : Key → List Key → Bool
 has q [] = false
 has q (k ∷ ks) = same_key q k || has q ks
 
-has-append : (q : Key) (ks ls : List Key) → has q (ks ++ ls) ≡ (has q ks || has q ls)
+pub has-append : (q : Key) (ks ls : List Key) → has q (ks ++ ls) ≡ (has q ks || has q ls)
 has-append q [] ls = refl
 has-append q (k ∷ ks) ls = by (same_key q k) (has-append q ks ls)
   where
@@ -27,7 +25,7 @@ has-append q (k ∷ ks) ls = by (same_key q k) (has-append q ks ls)
     by false rest = rest
 
 -- a key that doesn't stand in a tree isn't found there
-absent : (t : Trie) (path : ℕ) (q : Key) → has q (keys_in t) ≡ false → found t path q ≡ None
+pub absent : (t : Trie) (path : ℕ) (q : Key) → has q (keys_in t) ≡ false → found t path q ≡ None
 absent Leaf path q none = refl
 absent (Fork' p k o l r) path q none =
     by (same_key q k) (path % 2 == 1) (has q (keys_in l)) (has q (keys_in r)) (absent l (path / 2) q) (absent r (path / 2) q)
@@ -42,7 +40,7 @@ absent (Fork' p k o l r) path q none =
     by false false false y in_left in_right none = in_left refl
 
 -- what is kept by entries that a function gives
-first_kept-each : (f : Key → Outcome) (q : Key) (ks : List Key) → (has q ks ≡ false → f q ≡ Invalid) → first_kept q (each (λ k. (k, f k)) ks) ≡ kept_of (f q)
+pub first_kept-each : (f : Key → Outcome) (q : Key) (ks : List Key) → (has q ks ≡ false → f q ≡ Invalid) → first_kept q (each (λ k. (k, f k)) ks) ≡ kept_of (f q)
 first_kept-each f q [] absent = sym (ap kept_of (absent refl))
 first_kept-each f q (k ∷ ks) absent = by (same_key q k) refl (first_kept-each f q ks) absent
   where
@@ -52,46 +50,9 @@ first_kept-each f q (k ∷ ks) absent = by (same_key q k) refl (first_kept-each 
     by true same rest absent = ap (λ x. kept_of (f x)) (sym (equal_keys q k same))
     by false other rest absent = rest absent
 
-get-values_in : (t : Trie) (q : Key) → map.get (values_in t) q ≡ kept_of (outcome_in t q)
-get-values_in t q =
-    get-valuation_of (entries_in t) q
-    ∙ first_kept-each (outcome_in t) q (keys_in t) (λ none. ap (λ found. unwrap_or found Invalid) (absent t (path_of q) q none))
-
-pub outcome_at-values_in : (t : Trie) (q : Key) → outcome_at (values_in t) q ≡ outcome_in t q
-outcome_at-values_in t q = ap outcome_of (get-values_in t q) ∙ outcome_of-kept_of (outcome_in t q)
-
--- trees in which the same is found give the same values
-pub values_in-same : (old new : Trie) → FindsTheSame old new → values_in new ≡ values_in old
-values_in-same old new same =
-    map.same_map key_cmp_total key_cmp_antisymmetric _ _ (λ q.
-    get-values_in new q ∙ ap (λ found. kept_of (unwrap_or found Invalid)) (same (path_of q) q) ∙ sym (get-values_in old q))
-
-pub AreKeptIn-same : (old new : Trie) → FindsTheSame old new → AreKeptIn old → AreKeptIn new
-AreKeptIn-same old new same kept key = subst (λ o. MayKeep key (unwrap_or o Invalid)) (sym (same (path_of key) key)) (kept key)
-
 -- once an outcome is set
-found-Sets : (old new : Trie) (key : Key) (outcome : Outcome) → Sets old new (path_of key) key outcome → (q : Key) → found new (path_of q) q ≡ cond (same_key q key) (Some outcome) (found old (path_of q) q)
+pub found-Sets : (old new : Trie) (key : Key) (outcome : Outcome) → Sets old new (path_of key) key outcome → (q : Key) → found new (path_of q) q ≡ cond (same_key q key) (Some outcome) (found old (path_of q) q)
 found-Sets old new key outcome sets q = sets (path_of q) q (λ same. ap path_of same)
-
-told : (b : Bool) (outcome : Outcome) (f : Option Outcome) → kept_of (unwrap_or (cond b (Some outcome) f) Invalid) ≡ cond b (kept_of outcome) (kept_of (unwrap_or f Invalid))
-told true outcome f = refl
-told false outcome f = refl
-
-pub values_in-Sets : (old new : Trie) (key : Key) (outcome : Outcome) → Sets old new (path_of key) key outcome → values_in new ≡ with_outcome (values_in old) key outcome
-values_in-Sets old new key outcome sets =
-    map.same_map key_cmp_total key_cmp_antisymmetric _ _ (λ q.
-    get-values_in new q
-    ∙ ap (λ found. kept_of (unwrap_or found Invalid)) (found-Sets old new key outcome sets q)
-    ∙ told (same_key q key) outcome (found old (path_of q) q)
-    ∙ sym (get-with_outcome (values_in old) key outcome q ∙ ap (cond (same_key q key) (kept_of outcome)) (get-values_in old q)))
-
-pub AreKeptIn-Sets : (old new : Trie) (key : Key) (outcome : Outcome) → Sets old new (path_of key) key outcome → AreKeptIn old → MayKeep key outcome → AreKeptIn new
-AreKeptIn-Sets old new key outcome sets kept may q =
-    subst (λ o. MayKeep q (unwrap_or o Invalid)) (sym (found-Sets old new key outcome sets q)) (by (same_key q key) refl)
-  where
-    by : (b : Bool) → same_key q key ≡ b → MayKeep q (unwrap_or (cond b (Some outcome) (found old (path_of q) q)) Invalid)
-    by true same = subst (λ k. MayKeep k outcome) (sym (equal_keys q key same)) may
-    by false other = kept q
 
 -- an outcome is set in a tree where nothing is, at a fork of its key, and behind a fork of another
 pub Sets-leaf : (new : Trie) (path : ℕ) (key : Key) (outcome : Outcome) → IsFork new key outcome Leaf Leaf → Sets Leaf new path key outcome

@@ -3,5 +3,7 @@ pub mod KeyLaws
 pub mod TableLaws
 pub mod Kept
 pub mod Valuations
-pub mod Tries
 pub mod ValuationLaws
+pub mod Tries
+pub mod Rows
+pub mod Starts

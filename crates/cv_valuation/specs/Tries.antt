@@ -1,12 +1,11 @@
 -- Trees of outcomes by key.
-use Rattle.std.specs.Prelude.{ℕ, ◌≡◌, ◌/◌, ◌%◌, ◌==◌, if◌then◌else◌, List, [], ◌∷◌, ◌++◌, Option, Some, None, map, fold, unwrap_or}
+use Rattle.std.specs.Prelude.{ℕ, ◌≡◌, ◌/◌, ◌%◌, ◌==◌, if◌then◌else◌, List, [], ◌∷◌, ◌++◌, Option, Some, None, fold, unwrap_or}
 use Rattle.std.specs.Hash.FoldHasher as folding
 use Rattle.cv_valuation.specs.declared.key.Key.{Key}
 use Rattle.cv_valuation.specs.declared.outcome.Outcome.{Outcome}
 use Rattle.cv_valuation.specs.declared.outcome.Outcome.TheVariants.{Invalid}
 use Rattle.cv_valuation.specs.declared.trie.Trie.{Trie, Leaf, Fork'}
 use Rattle.cv_valuation.specs.Keys.{same_key, key_input}
-use Rattle.cv_valuation.specs.Valuations.{Values, MayKeep, valuation_of}
 
 -- the path of a key: its hash
 unfoldable pub path_of : Key → ℕ
@@ -29,17 +28,6 @@ keys_in (Fork' p k outcome left right) = k ∷ keys_in left ++ keys_in right
 
 abbrev pub outcome_in : Trie → Key → Outcome
 outcome_in trie key = unwrap_or (found trie (path_of key) key) Invalid
-
--- the values that a tree gives
-abbrev pub entries_in : Trie → List (Key × Outcome)
-entries_in trie = map (λ key. (key, outcome_in trie key)) (keys_in trie)
-
-abbrev pub values_in : Trie → Values
-values_in trie = valuation_of (entries_in trie)
-
--- each outcome may be kept for its key
-abbrev pub AreKeptIn : Trie → Type 0
-AreKeptIn trie = (key : Key) → MayKeep key (outcome_in trie key)
 
 -- the tree is a fork of this entry and these trees
 abbrev pub IsFork : Trie → Key → Outcome → Trie → Trie → Type 0

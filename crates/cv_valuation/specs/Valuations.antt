@@ -1,6 +1,6 @@
 -- What the properties of an element stand for: tokens, a typed value (Properties and Values API 1, "Calculation of Computed Values"),
 -- or the guaranteed-invalid value (Cascading Variables 1, "Guaranteed-Invalid Values").
-use Rattle.std.specs.Prelude.{ℕ, ◌≡◌, Bool, true, false, List, [], ◌∷◌, ◌++◌, codes, All, Option, Some, None, option_map}
+use Rattle.std.specs.Prelude.{ℕ, ◌≡◌, true, false, List, [], ◌∷◌, ◌++◌, codes, All, Option, Some, None}
 use Rattle.std.specs.FinMap as map
 use Rattle.cv_spec_text.specs.Characters.{space}
 use Rattle.cv_spec_text.specs.Printing.{bytes}
@@ -8,12 +8,10 @@ use Rattle.cv_spec_text.specs.Splits.{IsSpelt}
 use Rattle.cv_spec_text.specs.declared.token.Token.{Token}
 use Rattle.cv_component.specs.Parts.{trim}
 use Rattle.cv_var.specs.References.{has_var}
-use Rattle.cv_value.specs.declared.typed.Typed.{Typed}
 use Rattle.cv_value.specs.Kept.{MayBeKept}
 use Rattle.cv_value.specs.Text.{typed_text}
 use Rattle.cv_value_laws.specs.Values.{is_keyword}
 use Rattle.cv_valuation.specs.declared.key.Key.{Key}
-use Rattle.cv_valuation.specs.declared.key.Key.TheVariants.{Custom, Table}
 use Rattle.cv_valuation.specs.declared.outcome.Outcome.{Outcome}
 use Rattle.cv_valuation.specs.declared.outcome.Outcome.TheVariants.{Tokens, Value, Invalid}
 use Rattle.cv_valuation.specs.Keys.{is_custom_key, is_key, key_cmp}

@@ -5,6 +5,7 @@ mod computed;
 mod key;
 mod laws;
 mod outcome;
+mod row;
 mod trie;
 mod valuation;
 

@@ -105,11 +105,23 @@ pub(crate) fn put(
             } else if path % 2 == 1 {
                 let left = shared(&node.left)?;
                 let right = put(alloc, &node.right, path / 2, key, outcome)?;
-                fork(alloc, node.key.copy()?, node.outcome.copy(alloc)?, left, right)
+                fork(
+                    alloc,
+                    node.key.copy()?,
+                    node.outcome.copy(alloc)?,
+                    left,
+                    right,
+                )
             } else {
                 let left = put(alloc, &node.left, path / 2, key, outcome)?;
                 let right = shared(&node.right)?;
-                fork(alloc, node.key.copy()?, node.outcome.copy(alloc)?, left, right)
+                fork(
+                    alloc,
+                    node.key.copy()?,
+                    node.outcome.copy(alloc)?,
+                    left,
+                    right,
+                )
             }
         }
     }

@@ -1,7 +1,7 @@
-use Rattle.std.proofs.Common.{◌≡◌, ◌∙◌, ap, sym, take, map, ◌+◌, ◌++◌, ◌∷◌, []}
+use Rattle.std.proofs.Common.{◌≡◌, ◌∙◌, ap, sym, take, ◌+◌, ◌++◌, ◌∷◌, []}
 use Rattle.std.proofs.lemmas.List.{take_more}
 use Rattle.cv_component.specs.Shared.{piece_of}
-use Rattle.cv_props.specs.Registration.{first_or, last_said, inherits_in}
+use Rattle.cv_props.specs.Registration.{first_or, inherits_in}
 use Rattle.cv_props.proofs.Said.{last_said-piece}
 use Rattle.cv_props.proofs.descriptors.last_inherits.Goals as goal
 

@@ -1,8 +1,8 @@
-use Rattle.std.proofs.Common.{◌≡◌, ◌∙◌, ap, sym, take, map, ◌+◌, ◌++◌, ◌∷◌, []}
+use Rattle.std.proofs.Common.{◌≡◌, ◌∙◌, ap, sym, take, ◌+◌, ◌++◌, ◌∷◌, []}
 use Rattle.std.specs.Option.{option_copied}
 use Rattle.std.proofs.lemmas.List.{take_more}
 use Rattle.cv_component.specs.Shared.{piece_of}
-use Rattle.cv_props.specs.Registration.{first_or, last_said, initial_in}
+use Rattle.cv_props.specs.Registration.{first_or, initial_in}
 use Rattle.cv_props.proofs.Said.{copied-first_or, last_said-piece}
 use Rattle.cv_props.proofs.descriptors.last_initial.Goals as goal
 

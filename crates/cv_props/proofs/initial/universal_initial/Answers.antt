@@ -1,8 +1,7 @@
-use Rattle.std.proofs.Common.{sym, ap, ◌∙◌, subst}
+use Rattle.std.proofs.Common.{sym, ◌∙◌, subst}
 use Rattle.std.specs.Prelude.{All}
 use Rattle.cv_spec_text.specs.Splits.{IsSpelt}
 use Rattle.cv_props.specs.Registered.{IsUniversal}
-use Rattle.cv_props.specs.Registration.{is_universal_value}
 use Rattle.cv_props.proofs.Universal.{universal}
 use Rattle.cv_props.proofs.initial.universal_initial.Goals as goal
 

@@ -1,4 +1,4 @@
-use Rattle.std.proofs.Common.{sym, subst, ap, ◌∙◌, map, true, ◌≡◌}
+use Rattle.std.proofs.Common.{sym, subst, ◌∙◌, map, true, ◌≡◌}
 use Rattle.std.specs.Prelude.{IfSome}
 use Rattle.cv_spec_text.specs.Keywords.{is_custom}
 use Rattle.cv_component.specs.Shared.{piece_of}

@@ -1,10 +1,11 @@
 use Rattle.std.proofs.Common.{◌≡◌, ◌∙◌, ◌+◌, ◌++◌, ◌∷◌, [], ℕ, List, length, take, ap, sym, subst, arith}
 use Rattle.std.specs.Map.{keys_of}
 use Rattle.std.proofs.lemmas.List.{take_more, length-take-le}
+use Rattle.std.proofs.lemmas.List.Sums.{fold-append}
 use Rattle.cv_props.specs.Registered.{IsRegistered, entry_of}
 use Rattle.cv_props.proofs.Naming.{lookup_name}
 use Rattle.cv_props.specs.Registration.{registration}
-use Rattle.cv_props.specs.Sheets.{ignored, notes_on_rules, registered, registered_names, with_registration}
+use Rattle.cv_props.specs.Sheets.{ignored, notes_on_rules, registered, registered_names, registry_of, with_registration}
 use Rattle.cv_props.proofs.Numbered.{notes_on_rules-push}
 use Rattle.cv_props.proofs.Registering.{names-push, registered-push}
 use Rattle.cv_props.proofs.registry.of_rules.Goals as goal
@@ -24,6 +25,9 @@ loop-number-preserved c =
           ∙ registered-push x (take number all) (take (number + 1) all) rule next c.loop-number.entries.entries c.loop-number.invariant.entries name;
       order = ap keys_of c.in_ok-add_rule.ensures.entries
           ∙ names-push x (take number all) (take (number + 1) all) rule next c.loop-number.entries.entries c.loop-number.invariant.order;
+      registry = c.in_ok-add_rule.ensures.entries
+          ∙ ap (λ es. with_registration es (registration x rule)) c.loop-number.invariant.registry
+          ∙ sym (ap (registry_of x) next ∙ fold-append (λ some r. with_registration some (registration x r)) [] (take number all) (rule ∷ []));
       notes = c.in_ok-add_rule.ensures.notes
           ∙ ap (λ l. l ++ ignored number (registration x rule)) c.loop-number.invariant.notes
           ∙ sym (ap (notes_on_rules x) next ∙ notes_on_rules-push x (take number all) rule

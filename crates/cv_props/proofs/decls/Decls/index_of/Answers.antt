@@ -1,4 +1,4 @@
-use Rattle.std.proofs.Common.{◌∙◌, ap, sym, subst}
+use Rattle.std.proofs.Common.{◌∙◌, sym, subst}
 use Rattle.std.specs.Prelude.{IfSome}
 use Rattle.cv_props.specs.Declaring.{IsPlaceOf}
 use Rattle.cv_props.proofs.Places.{found_placed, placed_found}

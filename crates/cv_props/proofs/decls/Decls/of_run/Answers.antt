@@ -1,4 +1,4 @@
-use Rattle.std.proofs.Common.{◌≡◌, ap, sym, ◌∙◌, length, map, arith, rules}
+use Rattle.std.proofs.Common.{ap, sym, ◌∙◌, length, arith, rules}
 use Rattle.std.proofs.lemmas.List.{length-map}
 use Rattle.cv_component.specs.Shared.{piece_of}
 use Rattle.cv_props.proofs.Few.{few_of_style}
