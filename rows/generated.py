@@ -151,7 +151,21 @@ def bad_commands():
                               "malformed: field commands/1")
 
 
+ORDINARY = """font-size color line-height letter-spacing text-indent visibility orphans display width height min-width
+min-height max-width max-height margin-top margin-right margin-bottom margin-left padding-top padding-right padding-bottom
+padding-left top right bottom left row-gap column-gap opacity z-index order flex-grow flex-shrink background-color
+outline-offset""".split()
+
+
+def unbuilt_properties():
+    """Ordinary properties aren't built yet; that is told before the names are counted."""
+    for name in ORDINARY:
+        yield refused("unbuilt-shown-" + name, '{"elements":[{"parent":null}],"show":["%s"]}' % name, 9, "not built")
+        yield refused("unbuilt-declared-" + name, styled(name + ":0"), 9, "not built")
+    yield refused("unbuilt-before-names", of_names(2049, ',"show":["width"]'), 9, "not built")
+
+
 def rows():
     for some in [nested_documents, nested_values, arrays_at_their_limits, bytes_at_their_limit, names_at_their_limit,
-                 lists_at_the_limit, long_chains, fronts, bad_commands]:
+                 lists_at_the_limit, long_chains, fronts, bad_commands, unbuilt_properties]:
         yield from some()

@@ -11,5 +11,3 @@ pub mod Leaving
 pub mod Beginning
 pub mod Advancing
 pub mod Spreading
-pub mod Distinct
-pub mod Turning

@@ -1,9 +1,7 @@
-pub mod Keywords
-pub mod Values
-pub mod Judging
+pub mod Element
+pub mod Names
+pub mod Counting
 pub mod Answers
 pub mod Settling
-pub mod Places
-pub mod Counting
-pub mod Holding
 pub mod FaultNames
+pub mod Single

@@ -4,19 +4,13 @@
 mod answers;
 mod faults;
 mod graph;
-mod held;
-mod judging;
-mod keywords;
 mod laws;
+mod names;
 mod planning;
-mod reading;
 mod refusal;
 mod settling;
-mod starting;
 mod valuation;
-mod values;
 
-pub use cv_spec_valuation::Place;
-pub use laws::elements_are_lawful;
+pub use laws::elements_have_one_result;
 pub use refusal::ElemErr;
-pub use valuation::element;
+pub use valuation::{Place, element};

@@ -1,12 +1,5 @@
-pub mod Converted
 pub mod Joined
-pub mod Kept
-pub mod Maps
-pub mod Positive
-pub mod Raised
-pub mod Rows
 pub mod Scaled
-pub mod SumValues
 pub mod Turned
 pub mod Valued
 pub mod Values

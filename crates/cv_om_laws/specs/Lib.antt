@@ -1,3 +1,2 @@
-pub mod Powers
 pub mod Tables
 pub mod Valued

@@ -1,6 +1,5 @@
 //! The laws.
 
-ghost use Rattle.cv_om_laws.specs.Powers.{ConversionsAreKept, SumValuesAreKept};
 ghost use Rattle.cv_om_laws.specs.Tables.{TablesAreWhole};
 ghost use Rattle.cv_om_laws.specs.Valued.{ValuesAreKept};
 
@@ -15,14 +14,4 @@ pub fn values_are_kept()
 /// their names.
 pub fn tables_are_whole()
     ensures { TablesAreWhole }
-{}
-
-/// Where each unit means something positive, the sum of the items of a sum value, each times its units, is the value of the calculation.
-pub fn sum_values_are_kept()
-    ensures { SumValuesAreKept }
-{}
-
-/// There a conversion to a unit keeps the value.
-pub fn conversions_are_kept()
-    ensures { ConversionsAreKept }
 {}

@@ -1,8 +1,12 @@
+pub mod Keys
+pub mod KeyLaws
+pub mod TableLaws
+pub mod Valuations
+pub mod Tries
+pub mod ValuationLaws
 pub mod Winners
 pub mod WinnerLaws
-pub mod Registered
-pub mod Registration
-pub mod Kept
 pub mod Declaring
+pub mod Kept
 pub mod Reading
 pub mod Sheets

@@ -1,23 +1,22 @@
-//! What a sheet registers, and the kept and winning declarations of a style.
+//! Properties and the keys, declarations and values that belong to them.
 #![tactic(auto)]
 
+mod computed;
 mod decls;
-mod descriptors;
-mod entry;
-mod initial;
+mod key;
 mod laws;
 mod note;
-mod refusal;
-mod registration;
+mod outcome;
 mod registry;
 mod style;
+mod trie;
 
-pub use cv_valuation::{
-    Cause, Computed, Key, Outcome, Property, Valuation, key_text, outcome_text,
-    outcomes_are_by_key, properties_are_found,
-};
+pub use computed::{Cause, Computed};
+pub use cv_property::Property;
 pub use decls::{Decl, Decls};
-pub use entry::Entry;
-pub use laws::winners_are_by_key;
+pub use key::{Key, key_text};
+pub use laws::{outcomes_are_by_key, properties_are_found, winners_are_by_key};
 pub use note::{Note, NotePlace, Why};
-pub use registry::Registry;
+pub use outcome::{Outcome, Valuation, outcome_text};
+pub use registry::{Registry, registers};
+pub use style::declares_ordinary;

@@ -1,10 +1,8 @@
-pub mod Ending
 pub mod Given
 pub mod Growing
 pub mod Keys
 pub mod Lines
 pub mod Naming
-pub mod Next
 pub mod Reporting
 pub mod Shown
 pub mod Stepping

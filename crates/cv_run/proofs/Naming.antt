@@ -12,12 +12,10 @@ use Rattle.cv_spec_text.specs.Keywords.{is_custom}
 use Rattle.cv_doc.specs.declared.command.Command.{Command}
 use Rattle.cv_doc.specs.Members.{is_name}
 use Rattle.cv_props.specs.declared.decls.Decl.{Decl}
-use Rattle.cv_valuation.specs.declared.key.Key.{Key}
-use Rattle.cv_valuation.specs.Keys.{key_named, same_key}
-use Rattle.cv_props.specs.declared.entry.Entry.{Entry}
-use Rattle.cv_props.specs.Registered.{Registered}
+use Rattle.cv_props.specs.declared.key.Key.{Key}
+use Rattle.cv_props.specs.Keys.{key_named, same_key}
 use Rattle.cv_props.specs.Winners.{Declarations}
-use Rattle.cv_run.specs.Names.{AreNames, keys_in, name_of_command, name_of_key, named_keys, with_names}
+use Rattle.cv_run.specs.Names.{AreNames, keys_in, name_of_command, name_of_key, named_keys, names_counted, with_names}
 
 -- one more item of a list
 pub take_next : {X : Type 0} (xs : List X) (i : ℕ) (x : X) → slice_get xs i ≡ Some x → take (i + 1) xs ≡ take i xs ++ x ∷ []
@@ -76,16 +74,9 @@ with_key_next names ds i k d is =
     ∙ ap (with_names names) (filter_map-append name_of_key (keys_of (take i ds)) (k ∷ []))
     ∙ with_names_append names (filter_map name_of_key (keys_of (take i ds))) (filter_map name_of_key (k ∷ []))
 
--- the names of one more registration
-pub with_registered_next : (names : List (List ℕ)) (registered : Registered) (i : ℕ) (name : List ℕ) (entry : Entry) → slice_get registered i ≡ Some (name, entry)
-    → with_names names (keys_of (take (i + 1) registered)) ≡ with_names (with_names names (keys_of (take i registered))) (name ∷ [])
-with_registered_next names registered i name entry is =
-    ap (with_names names) (ap keys_of (take_next registered i (name, entry) is) ∙ map-append (λ e. e.0) (take i registered) ((name, entry) ∷ []))
-    ∙ with_names_append names (keys_of (take i registered)) (name ∷ [])
-
--- all names, which were added by kind
-pub counted_are : (none first declared shown asked : List (List ℕ)) (rules some more others : List (List ℕ)) → none ≡ [] → first ≡ with_names none rules → declared ≡ with_names first some → shown ≡ with_names declared more → asked ≡ with_names shown others
-    → asked ≡ with_names [] (rules ++ some ++ more ++ others)
-counted_are none first declared shown asked rules some more others nothing zeroth one two three =
-    three ∙ ap (λ n. with_names n others) (two ∙ ap (λ n. with_names n more) (one ∙ ap (λ n. with_names n some) (zeroth ∙ ap (λ n. with_names n rules) nothing)))
-    ∙ sym (with_names_append [] ((rules ++ some) ++ more) others ∙ ap (λ n. with_names n others) (with_names_append [] (rules ++ some) more ∙ ap (λ n. with_names n more) (with_names_append [] rules some)))
+-- the number of all names, which were added by kind
+pub counted_is : (none declared shown asked : List (List ℕ)) (some more others : List (List ℕ)) → none ≡ [] → declared ≡ with_names none some → shown ≡ with_names declared more → asked ≡ with_names shown others
+    → length asked ≡ names_counted (some ++ more ++ others)
+counted_is none declared shown asked some more others nothing first second third =
+    ap length (third ∙ ap (λ n. with_names n others) (second ∙ ap (λ n. with_names n more) (first ∙ ap (λ n. with_names n some) nothing))
+    ∙ sym (with_names_append [] (some ++ more) others ∙ ap (λ n. with_names n others) (with_names_append [] some more)))

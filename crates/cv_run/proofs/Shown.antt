@@ -6,10 +6,10 @@ use Rattle.std.proofs.lemmas.List.Elements.{All-head, All-tail}
 use Rattle.cv_spec_text.specs.Keywords.{is_custom}
 use Rattle.cv_doc.specs.Members.{is_name}
 use Rattle.cv_doc.specs.PropertyNames.{is_property, property_names, same_word}
-use Rattle.cv_valuation.specs.declared.key.Key.{Key}
-use Rattle.cv_valuation.specs.declared.key.Key.TheVariants.{Custom, Table}
+use Rattle.cv_props.specs.declared.key.Key.{Key}
+use Rattle.cv_props.specs.declared.key.Key.TheVariants.{Custom, Table}
 use Rattle.cv_property.specs.declared.property.Property.{Property}
-use Rattle.cv_valuation.specs.Keys.{key_named}
+use Rattle.cv_props.specs.Keys.{key_named}
 use Rattle.cv_property.specs.Table.{is_name_of, name_of, properties, property_named}
 use Rattle.cv_run.specs.Names.{named_keys}
 

@@ -1,3 +1,4 @@
+pub mod Building
 pub mod Fates
 pub mod Names
 pub mod Outcome

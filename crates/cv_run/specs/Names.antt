@@ -8,14 +8,11 @@ use Rattle.cv_doc.specs.declared.command.Command.{Command}
 use Rattle.cv_doc.specs.declared.command.Command.TheVariants as command
 use Rattle.cv_doc.specs.Members.{is_name}
 use Rattle.cv_doc.specs.Reading.{Shape}
-use Rattle.cv_valuation.specs.declared.key.Key.{Key}
-use Rattle.cv_valuation.specs.declared.key.Key.TheVariants.{Custom, Table}
-use Rattle.cv_valuation.specs.Keys.{key_named, same_key}
-use Rattle.cv_props.specs.Registered.{Registered}
-use Rattle.cv_props.specs.Registration.{viewport}
-use Rattle.cv_props.specs.Sheets.{registry_of}
+use Rattle.cv_props.specs.declared.key.Key.{Key}
+use Rattle.cv_props.specs.declared.key.Key.TheVariants.{Custom, Table}
+use Rattle.cv_props.specs.Keys.{key_named, same_key}
 use Rattle.cv_props.specs.Winners.{Declarations}
-use Rattle.cv_run.specs.Styles.{declarations_of, rules_in}
+use Rattle.cv_run.specs.Styles.{declarations_of}
 
 -- the keys of declarations, one element after another
 abbrev pub keys_in : List Declarations → List Key
@@ -45,6 +42,16 @@ keys_shown (Some names) declared = named_keys names
 abbrev pub shown_of : Shape → List Key
 shown_of document = keys_shown document.show (declared_keys document)
 
+-- the key is an ordinary property
+abbrev pub is_ordinary : Key → Bool
+is_ordinary (Table property) = true
+is_ordinary (Custom name) = false
+
+-- an entry of `show` names an ordinary property
+abbrev pub show_ordinary : Option (List (List ℕ)) → Bool
+show_ordinary None = false
+show_ordinary (Some names) = list_any is_ordinary (named_keys names)
+
 -- ---- the names that are counted
 
 abbrev pub name_of_key : Key → Option (List ℕ)
@@ -67,9 +74,9 @@ abbrev pub names_shown : Option (List (List ℕ)) → List (List ℕ)
 names_shown None = []
 names_shown (Some names) = names
 
--- the names of a registry, of declarations, of `show` and of commands
-abbrev pub names_in : Registered → List Declarations → Option (List (List ℕ)) → List Command → List (List ℕ)
-names_in registered all shown commands = keys_of registered ++ filter_map name_of_key (keys_in all) ++ names_shown shown ++ filter_map name_of_command commands
+-- the names of declarations, of `show` and of commands
+abbrev pub names_in : List Declarations → Option (List (List ℕ)) → List Command → List (List ℕ)
+names_in all shown commands = filter_map name_of_key (keys_in all) ++ names_shown shown ++ filter_map name_of_command commands
 
 -- the names, and behind them the custom ones of others that aren't among them, each once
 abbrev pub with_names : List (List ℕ) → List (List ℕ) → List (List ℕ)
@@ -79,6 +86,6 @@ with_names names others = insert_all bytes_eq names (filter is_custom others)
 abbrev pub names_counted : List (List ℕ) → ℕ
 names_counted names = length (with_names [] names)
 
--- how many different custom names the document's valid rules, winning declarations, `show` and commands have
+-- how many different custom names the document's winning declarations, `show` and commands have
 abbrev pub counted : Shape → ℕ
-counted document = names_counted (names_in (registry_of (viewport document.width document.height) (rules_in document.sheet)) (map declarations_of document.elements) document.show document.commands)
+counted document = names_counted (names_in (map declarations_of document.elements) document.show document.commands)

@@ -12,7 +12,6 @@ use Rattle.cv_doc.specs.declared.elements.Elem.{Elem}
 use Rattle.cv_doc.specs.Reading.{Shape}
 use Rattle.cv_props.specs.declared.note.Note.{Note}
 use Rattle.cv_props.specs.Kept.{kept_declarations, notes_on}
-use Rattle.cv_props.specs.Registration.{viewport}
 use Rattle.cv_props.specs.Sheets.{notes_on_rules}
 use Rattle.cv_props.specs.Winners.{Declarations, winners}
 
@@ -46,4 +45,4 @@ elements_notes number elements = flat_map element_notes (enumerate_from number e
 
 -- the notes: those on the sheet by rule, and behind them those on the elements by element and item
 abbrev pub notes_of : Shape → List Note
-notes_of document = notes_on_rules (viewport document.width document.height) (rules_in document.sheet) ++ elements_notes 0 document.elements
+notes_of document = notes_on_rules (rules_in document.sheet) ++ elements_notes 0 document.elements

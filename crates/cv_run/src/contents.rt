@@ -4,13 +4,13 @@ ghost use Rattle.std.specs.Prelude.{◌≡◌, ◌≤◌, IfOk, IfSome, length, 
 ghost use Rattle.cv_doc.specs.Kept.{TextsAreWithin};
 ghost use Rattle.cv_doc.specs.Reading.{shape_of};
 ghost use Rattle.cv_run.specs.Fates.{most_bytes};
-ghost use Rattle.cv_run.specs.Names.{AreNames, keys_in, keys_shown};
-ghost use Rattle.cv_run.specs.Telling.{HasContents};
+ghost use Rattle.cv_run.specs.Names.{AreNames, keys_in, keys_shown, named_keys, show_ordinary};
+ghost use Rattle.cv_run.specs.Telling.{MayHaveContents};
 
-use crate::names::{first_seen, named_keys};
+use crate::names::{are_ordinary, first_seen, named_keys};
 use crate::styles::{declarations_of, tokens_in};
 use cv_doc::Document;
-use cv_props::{Decls, Key, Note, Registry};
+use cv_props::{Decls, Key, Note, Registry, registers};
 use cv_spec_text::Name;
 use std::alloc::{AllocError, Global};
 
@@ -23,23 +23,31 @@ pub struct Contents {
     pub shown: Vec<Key>,
 }
 
-/// What a document says.
-pub fn contents_of(alloc: Global, document: &Document) -> Result<Contents, AllocError>
+/// What a document says, or `None` where it has a form that isn't built yet.
+pub fn contents_of(alloc: Global, document: &Document) -> Result<Option<Contents>, AllocError>
     requires few { length document.now.elements.items ≤ 16384 }
     requires short { TextsAreWithin most_bytes (shape_of document.now) }
     requires names { IfSome (option_map (λ names. names.items) document.now.show) AreNames }
-    ensures { IfOk result (HasContents (shape_of document.now)) }
+    ensures { IfOk result (λ contents. MayHaveContents (shape_of document.now) contents) }
 {
     let sheet = tokens_in(alloc, &document.sheet)?;
+    if registers(alloc, &sheet)? {
+        return Ok(None);
+    }
     let (registry, mut notes) = Registry::of_sheet(alloc, &sheet, document.width, document.height)?;
-    let declarations = declarations_of(alloc, &document.elements, &mut notes)?;
+    let Some(declarations) = declarations_of(alloc, &document.elements, &mut notes)? else {
+        return Ok(None);
+    };
     let shown = shown_keys(alloc, &document.show, &declarations)?;
-    Ok(Contents {
+    if shows_ordinary(&document.show, &shown) {
+        return Ok(None);
+    }
+    Ok(Some(Contents {
         registry,
         notes,
         declarations,
         shown,
-    })
+    }))
 }
 
 // The properties to show, where these are the declarations.
@@ -54,5 +62,16 @@ fn shown_keys(
     match show {
         Some(names) => named_keys(alloc, names),
         None => first_seen(alloc, declarations),
+    }
+}
+
+// Whether an entry of `show` names an ordinary property, where these are the properties to show.
+fn shows_ordinary(show: &Option<Vec<Name>>, shown: &[Key]) -> bool
+    requires { IfSome show.now (λ names. shown.now ≡ named_keys names.items) }
+    ensures { result ≡ show_ordinary (option_map (λ names. names.items) show.now) }
+{
+    match show {
+        Some(_) => are_ordinary(shown),
+        None => false,
     }
 }

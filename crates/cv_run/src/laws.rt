@@ -1,40 +1,26 @@
-//! What is computed of a tree is single, its report is, and the names that a document shows are those of properties.
+//! The report of a document is single, and the names that it shows are those of properties.
 
 ghost use Rattle.std.specs.Prelude.{◌≡◌, ℕ, All, List, is_some, length, true};
-ghost use Rattle.cv_valuation.specs.declared.computed.Computed.{Computed};
+ghost use Rattle.cv_doc.specs.declared.elements.Elem.{Elem};
+ghost use Rattle.cv_doc.specs.Kept.{IsTree};
 ghost use Rattle.cv_doc.specs.Members.{is_name};
 ghost use Rattle.cv_doc.specs.Reading.{Shape};
-ghost use Rattle.cv_valuation.specs.Keys.{key_named};
+ghost use Rattle.cv_props.specs.Keys.{key_named};
 ghost use Rattle.cv_run.specs.Names.{named_keys};
 ghost use Rattle.cv_run.specs.Outcome.{IsText};
-ghost use Rattle.cv_run.specs.Single.{HaveOneResult, IsOnlyReport};
-ghost use Rattle.cv_run.specs.Tree.{AllStand, AreComputed, IsOutOfRange, IsReport, IsTree, Tree, tree_of};
+ghost use Rattle.cv_run.specs.Single.{HasOneReport, HaveOneResult};
 
-use cv_calc::Unit;
-use cv_element::elements_are_lawful;
-use cv_frac::Frac;
-use cv_props::{Key, outcomes_are_by_key, properties_are_found};
-use cv_spec_element::has_one_valuation;
-use cv_spec_text::Token;
-use cv_value::Typed;
+use cv_element::elements_have_one_result;
+use cv_props::properties_are_found;
 use cv_words::words_say_one_thing;
 
-/// What is computed of a tree is its only valuation: no other values solve the equations on each element, given its parent's, and
-/// the causes for which properties are invalid are single too. Where a property is out of range, the least element on which one is,
-/// is single.
-pub fn trees_have_one_result()
-    ensures computed { (tree : Tree) (limit : ℕ) → IsTree tree → (all : List Computed) → AreComputed tree limit (length tree.parents) all → AllStand tree.registered all → HaveOneResult tree limit }
-    ensures least { (tree : Tree) (limit : ℕ) → IsTree tree → (one other : ℕ) (property more : Key) → IsOutOfRange tree limit one property → IsOutOfRange tree limit other more → other ≡ one }
-{
-    elements_are_lawful();
-    has_one_valuation::<Key, Token, Typed, Unit, Frac>();
-    outcomes_are_by_key();
-}
-
-/// What is a report of a document whose tree has one result is its only report.
+/// A tree of elements has exactly one valuation: values that solve the equations on each element, given its parent's, with the
+/// causes for which properties are invalid. A document has exactly one report.
 pub fn documents_have_one_report()
-    ensures { (document : Shape) (limit : ℕ) → HaveOneResult (tree_of document) limit → (text : List ℕ) → IsReport document limit text → IsOnlyReport document limit text }
+    ensures valuation { (elements : List Elem) (limit : ℕ) → IsTree elements → HaveOneResult elements limit }
+    ensures report { (document : Shape) (limit : ℕ) → IsTree document.elements → HasOneReport document limit }
 {
+    elements_have_one_result();
     properties_are_found();
 }
 

@@ -7,12 +7,12 @@ ghost use Rattle.std.specs.Option.{option_copied};
 ghost use Rattle.indexmap.specs.IndexSet.{insert_all, insert_key};
 ghost use Rattle.cv_spec_text.specs.Keywords.{is_custom};
 ghost use Rattle.cv_doc.specs.Members.{is_name};
-ghost use Rattle.cv_valuation.specs.Keys.{same_key};
-ghost use Rattle.cv_run.specs.Names.{AreNames, first_seen, keys_in, name_of_command, name_of_key, named_keys, names_in, names_shown, with_names};
+ghost use Rattle.cv_props.specs.Keys.{same_key};
+ghost use Rattle.cv_run.specs.Names.{AreNames, first_seen, is_ordinary, keys_in, name_of_command, name_of_key, named_keys, names_counted, names_in, names_shown, with_names};
 
 use crate::laws::shown_names_are_keys;
 use cv_doc::Command;
-use cv_props::{Decls, Key, Registry};
+use cv_props::{Decls, Key};
 use cv_spec_text::Name;
 use indexmap::IndexSet;
 use std::alloc::{AllocError, Global};
@@ -42,6 +42,22 @@ fn add_named(alloc: Global, keys: &mut Vec<Key>, name: &Name) -> Result<(), Allo
     Ok(())
 }
 
+/// Whether one of the keys is an ordinary property.
+pub fn are_ordinary(keys: &[Key]) -> bool
+    ensures { result ≡ list_any is_ordinary keys.now }
+{
+    keys.iter().any(is_ordinary)
+}
+
+fn is_ordinary(key: &Key) -> bool
+    ensures { result ≡ is_ordinary key.now }
+{
+    match key {
+        Key::Table(_) => true,
+        Key::Custom(_) => false,
+    }
+}
+
 /// The keys of the declarations, each once, in the order in which they are first seen.
 #[tactic(auto, using(crate::proofs::Naming::seen_next))]
 pub fn first_seen(alloc: Global, all: &[Decls]) -> Result<Vec<Key>, AllocError>
@@ -62,9 +78,7 @@ fn add_keys(seen: &mut IndexSet<Key>, declarations: &Decls) -> Result<(), AllocE
 {
     for place in 0..declarations.len() {
         let (key, _) = declarations.at(place);
-        if !seen.contains(key) {
-            seen.insert(key.copy()?)?;
-        }
+        seen.insert(key.copy()?)?;
     }
     Ok(())
 }
@@ -79,33 +93,20 @@ fn copies(alloc: Global, keys: &[Key]) -> Result<Vec<Key>, AllocError>
     Ok(all)
 }
 
-/// The different custom names of the registry, the declarations, the names to show and the commands.
-pub fn counted_names(
+/// How many different custom names the declarations, the names to show and the commands have.
+pub fn count_names(
     alloc: Global,
-    registry: &Registry,
     all: &[Decls],
     shown: &Option<Vec<Name>>,
     commands: &[Command],
-) -> Result<IndexSet<Name>, AllocError>
-    ensures { IfOk result (λ names. names.keys ≡ with_names [] (names_in registry.now all.now (option_map (λ names. names.items) shown.now) commands.now)) }
+) -> Result<usize, AllocError>
+    ensures { IfOk result (λ count. count ≡ names_counted (names_in all.now (option_map (λ names. names.items) shown.now) commands.now)) }
 {
     let mut names = IndexSet::new(alloc);
-    add_registered(&mut names, registry)?;
     add_all_declared(&mut names, all)?;
     add_show(&mut names, shown)?;
     add_asked(&mut names, commands)?;
-    Ok(names)
-}
-
-#[tactic(auto, using(crate::proofs::Naming::with_registered_next))]
-fn add_registered(names: &mut IndexSet<Name>, registry: &Registry) -> Result<(), AllocError>
-    ensures { OnOk result (names.new.keys ≡ with_names names.old.keys (keys_of registry.now)) }
-{
-    for place in 0..registry.len() {
-        let (name, _) = registry.at(place);
-        add_custom(names, name)?;
-    }
-    Ok(())
+    Ok(names.len())
 }
 
 #[tactic(auto, using(crate::proofs::Naming::with_keys_next))]
@@ -185,7 +186,7 @@ fn add_command(names: &mut IndexSet<Name>, command: &Command) -> Result<(), Allo
 fn add_custom(names: &mut IndexSet<Name>, name: &Name) -> Result<(), AllocError>
     ensures { OnOk result (names.new.keys ≡ with_names names.old.keys (name.now ∷ [])) }
 {
-    if name.is_custom() && !names.contains(name) {
+    if name.is_custom() {
         names.insert(name.copy()?)?;
     }
     Ok(())

@@ -8,13 +8,13 @@ ghost use Rattle.cv_run.specs.Fates.{computed, fate_of_document, fate_of_reading
 ghost use Rattle.cv_run.specs.Telling.{HasContents, IsRefusal, TellsOf};
 
 use crate::contents::{Contents, contents_of};
-use crate::laws::{documents_have_one_report, trees_have_one_result};
-use crate::names::counted_names;
+use crate::laws::documents_have_one_report;
+use crate::names::count_names;
 use crate::status::Status;
-use crate::tree::{Stop, computed_of};
+use crate::tree::computed_of;
 use cv_doc::{DocErr, Document, What};
 use cv_props::{Computed, Key, Note};
-use std::alloc::Global;
+use std::alloc::{AllocError, Global};
 
 const MOST_NAMES: usize = 2048;
 
@@ -32,7 +32,7 @@ pub fn report_of(alloc: Global, bytes: &[u8], limit: u32) -> Result<Report, Stat
     requires least { 1 ≤ limit }
     requires most { limit ≤ 32768 }
     ensures tells { IfOk result (λ report. TellsOf (fate_of_reading (document_of bytes.now)) limit report) }
-    ensures refused { IfErr result (IsRefusal (fate_of_reading (document_of bytes.now)) limit) }
+    ensures refused { IfErr result (λ status. IsRefusal (fate_of_reading (document_of bytes.now)) status) }
     ensures counted { RefusesCounted (document_of bytes.now) }
 {
     let document = match Document::of_bytes(alloc, bytes) {
@@ -50,20 +50,21 @@ fn report_of_document(alloc: Global, document: &Document, limit: u32) -> Result<
     requires least { 1 ≤ limit }
     requires most { limit ≤ 32768 }
     ensures tells { IfOk result (λ report. TellsOf (fate_of_document (shape_of document.now)) limit report) }
-    ensures refused { IfErr result (IsRefusal (fate_of_document (shape_of document.now)) limit) }
+    ensures refused { IfErr result (λ status. IsRefusal (fate_of_document (shape_of document.now)) status) }
 {
-    let contents = contents_of(alloc, document)?;
-    let names = counted_names(
+    let Some(contents) = contents_of(alloc, document)? else {
+        return Err(Status::Unbuilt);
+    };
+    let names = count_names(
         alloc,
-        &contents.registry,
         &contents.declarations,
         &document.show,
         &document.commands,
     )?;
-    if names.len() > MOST_NAMES {
+    if names > MOST_NAMES {
         return Err(Status::TooLarge(What::Names));
     }
-    report_of_contents(alloc, document, contents, limit)
+    Ok(report_of_contents(alloc, document, contents, limit)?)
 }
 
 fn report_of_contents(
@@ -71,28 +72,22 @@ fn report_of_contents(
     document: &Document,
     contents: Contents,
     limit: u32,
-) -> Result<Report, Status>
+) -> Result<Report, AllocError>
     requires sound { IsSound (shape_of document.now) }
     requires contents { HasContents (shape_of document.now) contents }
     requires least { 1 ≤ limit }
     requires most { limit ≤ 32768 }
-    ensures tells { IfOk result (TellsOf (computed (shape_of document.now)) limit) }
-    ensures refused { IfErr result (IsRefusal (computed (shape_of document.now)) limit) }
+    ensures { IfOk result (λ report. TellsOf (computed (shape_of document.now)) limit report) }
 {
-    trees_have_one_result();
     documents_have_one_report();
-    let all = match computed_of(
+    let all = computed_of(
         alloc,
         &document.elements,
-        &contents.registry,
-        &contents.declarations,
+        contents.registry,
+        contents.declarations,
         (document.width, document.height),
         limit,
-    ) {
-        Ok(all) => all,
-        Err(Stop::Range { element, property }) => return Err(Status::Range { element, property }),
-        Err(Stop::Memory) => return Err(Status::NoMemory),
-    };
+    )?;
     Ok(Report {
         notes: contents.notes,
         shown: contents.shown,

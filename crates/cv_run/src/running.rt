@@ -1,13 +1,12 @@
 //! The top call.
 
-ghost use Rattle.std.specs.Prelude.{◌≡◌, ◌≤◌, ◌⊎◌, ℕ, IfSome, IfOk, IfErr, length};
+ghost use Rattle.std.specs.Prelude.{◌≡◌, ◌≤◌, ◌⊎◌, IfSome, IfOk, IfErr, length};
 ghost use Rattle.std.specs.Io.KnownBytes.{Appends, IsAtEnd, Keeps};
 ghost use Rattle.cv_io.specs.Causes.{Rose};
 ghost use Rattle.cv_io.specs.Streams.{TookPrefix};
 ghost use Rattle.cv_words.specs.Words.{IsRefused, texts_of};
-ghost use Rattle.cv_run.specs.Fates.{IsTooLarge, fate_of, malformed, too_large};
-ghost use Rattle.cv_run.specs.Outcome.{AreRead, ComesOf, EndsAs, HasAllButMemory, HasWritten, HasWrittenFront, IsOutOfRange, IsSound, TellsOfDocument, WritesNothing};
-ghost use Rattle.cv_valuation.specs.declared.key.Key as keys;
+ghost use Rattle.cv_run.specs.Fates.{IsTooLarge, fate_of, malformed, too_large, unbuilt};
+ghost use Rattle.cv_run.specs.Outcome.{AreRead, ComesOf, EndsAs, HasAllButMemory, HasWritten, HasWrittenFront, IsSound, TellsOfDocument, WritesNothing};
 ghost use Rattle.cv_run.specs.StatusLines.{line_of};
 ghost use Rattle.cv_run.specs.Telling.{EndsEarly, IsOversized, IsStopped, TellsOf, text_of};
 
@@ -41,8 +40,7 @@ pub fn run<S: Source, O: Sink, E: Sink>(
     ensures too_large { (what : What) → result ≡ Status.TooLarge what → IfSome (S.left src.old) (λ given. fate_of given ≡ too_large what) }
     ensures parts { (what : What) → result ≡ Status.TooLarge what → IfSome (S.left src.old) (λ given. IsTooLarge given what) }
     ensures malformed { (why : BadDoc) → result ≡ Status.Malformed why → IfSome (S.left src.old) (λ given. fate_of given ≡ malformed why) }
-    ensures range { (element : ℕ) (property : keys.Key) → result ≡ Status.Range element property → IfSome (S.left src.old)
-        (λ given. IsOutOfRange (texts_of words.now.items) given element property) }
+    ensures unbuilt { result ≡ Status.Unbuilt → IfSome (S.left src.old) (λ given. fate_of given ≡ unbuilt) }
     ensures write_fault { result ≡ Status.WriteFault → Rose (O.faults out.old) (O.faults out.new) }
 
     // What tells of a document comes only once the input was read to its end.
@@ -59,7 +57,7 @@ pub fn run<S: Source, O: Sink, E: Sink>(
     ensures refuses { IsSound (texts_of words.now.items) (Rose (S.faults src.old) (S.faults src.new))
         → IfSome (S.left src.old) (λ given. ComesOf (fate_of given) result) }
 
-    // Words that are taken, streams that don't fail and an input that is computed, with no property out of range, give `Done`.
+    // Words that are taken, streams that don't fail and an input that is computed give `Done`.
     ensures complete { HasAllButMemory (texts_of words.now.items) (S.left src.old)
         (Rose (S.faults src.old) (S.faults src.new)) (Rose (O.faults out.old) (O.faults out.new))
         → (result ≡ Status.Done) ⊎ (result ≡ Status.NoMemory) }
@@ -68,7 +66,7 @@ pub fn run<S: Source, O: Sink, E: Sink>(
     ensures line { TookPrefix (E.taken err.old) (E.taken err.new) (line_of result) }
 {
     let status = answer(alloc, words, src, out);
-    let _ = status.put_line(alloc, err);
+    let _ = status.put_line(err);
     status
 }
 
@@ -95,7 +93,7 @@ fn prepare<S: Source>(alloc: Global, src: &mut S, limit: u32) -> Result<Report, 
     ensures tells { IfOk result (λ report. IfSome (S.left src.old) (λ given. TellsOf (fate_of given) limit report)) }
     ensures few { IfOk result (λ report. length report.all.items ≤ 16384) }
     ensures read_whole { IfOk result (λ report. IsAtEnd (S.left src.new)) }
-    ensures refused { IfErr result (IsStopped (S.left src.old) limit (Rose (S.faults src.old) (S.faults src.new))) }
+    ensures refused { IfErr result (λ status. IsStopped (S.left src.old) (Rose (S.faults src.old) (S.faults src.new)) status) }
     ensures parts { IfErr result (λ status. IsOversized (S.left src.old) status) }
     ensures early { IfErr result EndsEarly }
     ensures read_before { IfErr result (λ status. TellsOfDocument status → IsAtEnd (S.left src.new)) }

@@ -1,14 +1,15 @@
 //! The styles of a document's elements: their declarations, and what is ignored in them.
 
-ghost use Rattle.std.specs.Prelude.{◌≡◌, ◌≤◌, ◌++◌, All, IfOk, OnOk, length, map};
+ghost use Rattle.std.specs.Prelude.{◌≡◌, ◌≤◌, ◌++◌, All, IfOk, IfSome, IsSome, length, option_map};
 ghost use Rattle.cv_spec_text.specs.Splits.{IsSpelt};
+ghost use Rattle.cv_run.specs.Building.{all_built, built_style};
 ghost use Rattle.cv_run.specs.Fates.{most_bytes};
-ghost use Rattle.cv_run.specs.Styles.{declarations_in, declarations_of, elements_notes, items_in, tokens_in};
+ghost use Rattle.cv_run.specs.Styles.{elements_notes, items_in, tokens_in};
 ghost use Rattle.cv_run.specs.Telling.{AreFew};
 ghost use Rattle.cv_props.specs.Kept.{notes_on};
 
 use cv_doc::Elem;
-use cv_props::{Decls, Note};
+use cv_props::{Decls, Note, declares_ordinary};
 use cv_spec_text::{Name, Token};
 use cv_token::tokenise;
 use std::alloc::{AllocError, Global};
@@ -22,28 +23,32 @@ pub fn tokens_in(alloc: Global, text: &Name) -> Result<Vec<Token>, AllocError>
     tokenise(alloc, text.text())
 }
 
-/// The declarations of each element, and the notes on what is ignored behind those that are there.
-#[tactic(auto, using(crate::proofs::Stepping::notes_next))]
+/// The declarations of each element, and the notes on what is ignored behind those that are there. `None` where a style declares
+/// an ordinary property, which isn't built yet.
+#[tactic(auto, using(crate::proofs::Stepping::all_built_next, crate::proofs::Stepping::all_built_none, crate::proofs::Stepping::all_built_nothing))]
 pub fn declarations_of(
     alloc: Global,
     elements: &[Elem],
     notes: &mut Vec<Note>,
-) -> Result<Vec<Decls>, AllocError>
+) -> Result<Option<Vec<Decls>>, AllocError>
     requires count { length elements.now ≤ 16384 }
     requires short { All (λ element. length element.style ≤ most_bytes) elements.now }
-    ensures declarations { IfOk result (λ all. all.items ≡ map declarations_of elements.now) }
-    ensures few { IfOk result (λ all. All AreFew all.items) }
-    ensures notes { OnOk result (notes.new.items ≡ notes.old.items ++ elements_notes 0 elements.now) }
+    ensures declarations { IfOk result (λ all. option_map (λ declarations. declarations.items) all ≡ all_built elements.now) }
+    ensures few { IfOk result (λ all. IfSome all (λ declarations. All AreFew declarations.items)) }
+    ensures notes { IfOk result (λ all. IsSome all → notes.new.items ≡ notes.old.items ++ elements_notes 0 elements.now) }
 {
     let mut all = Vec::new(alloc);
     let mut rest = elements;
     let mut number = 0u32;
     while let Some((element, after)) = rest.split_first() {
-        all.push(declarations_in(alloc, number, &element.style, notes)?)?;
+        match declarations_in(alloc, number, &element.style, notes)? {
+            Some(declarations) => all.push(declarations)?,
+            None => return Ok(None),
+        }
         number += 1;
         rest = after;
     }
-    Ok(all)
+    Ok(Some(all))
 }
 
 // The declarations of the element with this number.
@@ -52,14 +57,17 @@ fn declarations_in(
     number: u32,
     style: &Name,
     notes: &mut Vec<Note>,
-) -> Result<Decls, AllocError>
+) -> Result<Option<Decls>, AllocError>
     requires { length style.now ≤ most_bytes }
-    ensures declarations { IfOk result (λ declarations. declarations ≡ declarations_in style.now) }
-    ensures few { IfOk result AreFew }
-    ensures notes { OnOk result (notes.new.items ≡ notes.old.items ++ notes_on number (items_in style.now)) }
+    ensures declarations { IfOk result (λ declarations. declarations ≡ built_style style.now) }
+    ensures few { IfOk result (λ declarations. IfSome declarations AreFew) }
+    ensures notes { IfOk result (λ declarations. IsSome declarations → notes.new.items ≡ notes.old.items ++ notes_on number (items_in style.now)) }
 {
     let tokens = tokens_in(alloc, style)?;
+    if declares_ordinary(alloc, &tokens)? {
+        return Ok(None);
+    }
     let (declarations, mut more) = Decls::of_style(alloc, number, &tokens)?;
     notes.append(&mut more)?;
-    Ok(declarations)
+    Ok(Some(declarations))
 }

@@ -1,7 +1,7 @@
 use Rattle.std.proofs.Common.{◌≡◌, take}
 use Rattle.std.specs.Map.{keys_of}
 use Rattle.indexmap.specs.IndexSet.{insert_all}
-use Rattle.cv_valuation.specs.Keys.{same_key}
+use Rattle.cv_props.specs.Keys.{same_key}
 use Rattle.cv_run.proofs.names.add_keys.Given as goal
 
 abbrev pub invariant-loop-place : goal.invariant-loop-place

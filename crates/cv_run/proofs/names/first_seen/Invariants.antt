@@ -1,6 +1,6 @@
 use Rattle.std.proofs.Common.{◌≡◌, [], length}
 use Rattle.indexmap.specs.IndexSet.{insert_all}
-use Rattle.cv_valuation.specs.Keys.{same_key}
+use Rattle.cv_props.specs.Keys.{same_key}
 use Rattle.cv_run.specs.Names.{keys_in}
 use Rattle.cv_run.proofs.names.first_seen.Given as goal
 

@@ -1,7 +1,0 @@
-use Rattle.std.proofs.Common.{◌≡◌, take}
-use Rattle.std.specs.Map.{keys_of}
-use Rattle.cv_run.specs.Names.{with_names}
-use Rattle.cv_run.proofs.names.add_registered.Given as goal
-
-abbrev pub invariant-loop-place : goal.invariant-loop-place
-invariant-loop-place l = l.names.keys ≡ with_names l.fn.names.keys (keys_of (take l.place l.registry))
