@@ -13,15 +13,17 @@ CUSTOM = """
 """
 
 # Where an element has no box, what getComputedStyle gives is the computed value and not the one that layout used. So the
-# ordinary properties, but for `display`, are read while the root has none.
+# ordinary properties, but for `display`, are read while the root has none. It gives 0px for a min-width or min-height of `auto`
+# too, for the sake of old pages (CSS Sizing 3), so that these are read by computedStyleMap where they are 0px.
 ORDINARY = """
 (names => {
   const sheet = new CSSStyleSheet();
   sheet.replaceSync(":root { display: none !important }");
   document.adoptedStyleSheets = [sheet];
   const values = [...document.querySelectorAll("*")].map(element => {
-    const style = getComputedStyle(element);
-    return names.map(name => style.getPropertyValue(name));
+    const style = getComputedStyle(element), map = element.computedStyleMap();
+    const value = name => style.getPropertyValue(name);
+    return names.map(name => name.startsWith("min-") && value(name) === "0px" ? map.get(name).toString() : value(name));
   });
   document.adoptedStyleSheets = [];
   return values;

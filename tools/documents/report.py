@@ -31,13 +31,29 @@ class Note:
 def read_report(text):
     """The lines of a report one after the other, as `Line` and `Note`; notes on the sheet are passed over."""
     for line in text.split("\n"):
-        note = NOTE.fullmatch(line)
-        found = None if note else LINE.fullmatch(line)
-        if note:
-            yield Note(int(note.group(1)), int(note.group(2)), note.group(3))
-        elif found:
-            element, name, _, equals, value, cause = found.groups()
-            yield Line(int(element), name, (value or "") if equals else None, cause)
+        head, equals, value = line.partition(" = ")
+        if equals and "\\" not in head:  # as nearly all lines are
+            element, _, name = head.partition(" ")
+            yield Line(int(element), name, value)
+        else:
+            found = read_line(line)
+            if found is not None:
+                yield found
+
+
+def read_line(line):
+    """A line of any form; None where it is neither `Line` nor `Note`."""
+    if line.endswith(" invalid") and line.count(" ") == 2:
+        element, name, _ = line.split(" ")
+        return Line(int(element), name)
+    note = NOTE.fullmatch(line)
+    if note:
+        return Note(int(note.group(1)), int(note.group(2)), note.group(3))
+    found = LINE.fullmatch(line)
+    if found is None:
+        return None
+    element, name, _, equals, value, cause = found.groups()
+    return Line(int(element), name, (value or "") if equals else None, cause)
 
 
 def with_labels(report, labels):

@@ -1,5 +1,6 @@
 """The declarations that apply to an element, in an order in which the last one wins (Cascading and Inheritance 5)."""
 from dataclasses import dataclass
+from functools import lru_cache
 from typing import Tuple
 
 import cssselect2
@@ -109,6 +110,11 @@ def winner_of(applied, name):
     return (important or named or [None])[-1]
 
 
+def is_winner(one, applied):
+    """Whether one of the declarations that apply wins."""
+    return winner_of(applied, one.declared.name) is one
+
+
 def rolled_back(applied):
     """Takes out what `revert` and `revert-layer` roll back, where they win."""
     names = {one.declared.name for one in applied if is_rollback(one)}
@@ -146,8 +152,14 @@ def style_text(applied, with_places=True):
             parts.append(place_comment(place_of(one), place[0]))
             place = place_of(one)
         important = " !important" if declared.important else ""
-        parts.append(f"{serialize_identifier(declared.name)}: {declared.value}{important};")
+        parts.append(f"{written(declared.name)}: {declared.value}{important};")
     return " ".join(parts)
+
+
+@lru_cache(maxsize=None)
+def written(name):
+    """A name as an identifier."""
+    return serialize_identifier(name)
 
 
 def place_of(applied):
@@ -166,6 +178,5 @@ def place_comment(place, file_before):
 
 
 def untold(applied):
-    """The names whose value can't be told: a shorthand that isn't expanded wins over what is kept."""
-    names = {one.declared.name for one in applied if one.declared.value is None}
-    return sorted(name for name in names if winner_of(applied, name).declared.value is None)
+    """The declarations that win and whose value can't be told: those of a shorthand that isn't expanded."""
+    return [one for one in applied if one.declared.value is None and is_winner(one, applied)]

@@ -4,6 +4,7 @@ import re
 import sys
 
 from pages.page import MOST_BYTES, read_page
+from running.program import report_of
 
 
 def main(arguments):
@@ -11,10 +12,10 @@ def main(arguments):
     words = parser().parse_args(arguments)
     width, height = (int(number) for number in words.viewport.split("x"))
     try:
-        page = read_page(words.file, width, height, words.only_custom)
+        page = read_page(words.file, width, height, report_of=report_of)
         text = page.text().encode("utf-8", "replace")
         if len(text) > MOST_BYTES:
-            page = read_page(words.file, width, height, words.only_custom, places=False)
+            page = read_page(words.file, width, height, with_places=False, report_of=report_of)
             text = page.text().encode("utf-8", "replace")
     except OSError as error:
         print(f"page: {words.file} can't be read: {error.strerror}", file=sys.stderr)
@@ -30,7 +31,6 @@ def parser():
     words = argparse.ArgumentParser(prog="tools/page", description="Writes a web page as a document for cssvars (docs/DOCUMENT.md).")
     words.add_argument("file", help="the page; its sheets are read where they lie")
     words.add_argument("--viewport", type=viewport, default="1280x720", metavar="WxH", help="the size of the viewport (1280x720)")
-    words.add_argument("--only-custom", action="store_true", help="drop ordinary properties and @property rules, and count them")
     return words
 
 

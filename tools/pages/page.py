@@ -1,37 +1,41 @@
 """A page as a document."""
 import json
-import re
-from dataclasses import dataclass, field
-from typing import Dict, List
+from dataclasses import dataclass
 
-from documents.properties import is_custom
 from pages import media
 from pages.cascade import Cascade, style_text, untold
 from pages.layers import Layers
 from pages.left_out import LeftOut
 from pages.rules import Reader
 from pages.sheets import Sheets
+from pages.substituted import with_shorthands
 from pages.tree import read_elements
 
 MOST_BYTES = 16_777_216
 
 
+def no_report(document):
+    """What gives no report."""
+    return None
+
+
 @dataclass
 class Page:
-    """A page that was read: its document, what is left out, and which values can't be told."""
+    """A page that was read: its document, and what is left out."""
 
     document: dict
     left_out: LeftOut
-    untold: Dict[int, List[str]] = field(default_factory=dict)  # by element
-    dropped_names: List[str] = field(default_factory=list)  # names whose registration was dropped
 
     def text(self):
         """The document as JSON, an element a line."""
         return text_of(self.document)
 
 
-def read_page(path, width=1280, height=720, only_custom=False, places=True):
-    """Reads the page in a file. With `only_custom` ordinary properties and registrations are dropped."""
+def read_page(path, width=1280, height=720, with_places=True, report_of=no_report):
+    """Reads the page in a file. With `with_places` styles say in comments where their declarations come from.
+
+    `report_of` gives the program's report of a document, for shorthands with var(), or None where there is no program.
+    """
     left_out, screen = LeftOut(), media.Screen(width, height)
     with open(path, "rb") as file:
         data = file.read()
@@ -42,29 +46,24 @@ def read_page(path, width=1280, height=720, only_custom=False, places=True):
     sheets.read_all(elements, places, reader)
     cascade = Cascade(reader)
     page = Page({"page": path, "viewport": {"width": width, "height": height}}, left_out)
-    if reader.registrations and only_custom:
-        left_out.add(path, 1, f"{len(reader.registrations)} @property rules, for the program doesn't build them yet")
-        page.dropped_names = re.findall(r"@property\s+(--[^\s{]+)", " ".join(reader.registrations))
-    elif reader.registrations:
+    if reader.registrations:
         page.document["sheet"] = "\n".join(reader.registrations)
-    page.document["elements"] = [document_element(index, element, cascade, page, only_custom, places) for index, element in enumerate(elements)]
+    page.document["elements"] = [{"parent": element.parent, "label": element.label} for element in elements]
+    applied = with_shorthands([cascade.applied(element, path) for element in elements], page.document, report_of)
+    for item, its in zip(page.document["elements"], applied):
+        style = style_text(its, with_places)
+        if style:
+            item["style"] = style
+    note_untold(applied, left_out, path)
     return page
 
 
-def document_element(index, element, cascade, page, only_custom, places):
-    """One element of the document; with `places` its style says in comments where its declarations come from."""
-    applied = cascade.applied(element, page.document["page"])
-    if only_custom:
-        page.left_out.dropped.update(one.declared.name for one in applied if one.author and not is_custom(one.declared.name))
-        applied = [one for one in applied if is_custom(one.declared.name)]
-    names = untold(applied)
-    if names:
-        page.untold[index] = names
-    item = {"parent": element.parent, "label": element.label}
-    style = style_text(applied, places)
-    if style:
-        item["style"] = style
-    return item
+def note_untold(applied, left_out, path):
+    """Notes the shorthands with var() that win and whose values can't be told."""
+    found = {(one.file or path, one.declared.line, one.declared.shorthand.partition(":")[0]): None for its in applied for one in untold(its)}
+    for file, line, name in found:
+        if name:
+            left_out.add(file, line, f"shorthand {name} with var()")
 
 
 def note_scripts(elements, left_out, path):

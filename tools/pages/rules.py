@@ -5,7 +5,7 @@ from typing import List, Optional, Tuple
 import tinycss2
 
 from pages import media, selectors, supports
-from pages.shorthands import expand
+from pages.shorthands import WITH_VAR, expand
 
 # At-rules that hold no declaration of an element.
 SILENT = frozenset(("charset", "font-face", "page", "counter-style", "font-feature-values", "font-palette-values", "view-transition", "color-profile"))
@@ -25,6 +25,7 @@ class Declared:
     value: Optional[str]
     important: bool
     line: int
+    shorthand: str = ""  # the shorthand with var() that gives it, as `padding: var(--a)`
 
 
 @dataclass
@@ -123,13 +124,14 @@ class Reader:
             self.left_out.add(scope.file, line, f"a declaration of {node.name} with a bad string, url or bracket, which no browser takes")
             return []
         longhands, why = expand(node)
+        shorthand = f"{node.lower_name}: {tinycss2.serialize(node.value).strip()}" if why == WITH_VAR else ""
         if longhands is None:
             if scope.author:
                 self.left_out.drop(node.lower_name)
             return []
-        if why is not None:
+        if why is not None and why != WITH_VAR:
             self.left_out.add(scope.file, line, why)
-        return [Declared(name, value, node.important, line) for name, value in longhands]
+        return [Declared(name, value, node.important, line, shorthand) for name, value in longhands]
 
     def read_at_rule(self, node, scope, found=None):
         """Reads an at-rule; `found` are the selectors around where it is nested in a style rule."""

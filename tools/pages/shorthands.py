@@ -1,12 +1,13 @@
 """Shorthands and logical names that stand for ordinary properties which the program computes.
 
-They are expanded where they hold no var(); the lines are those of horizontal text from left to right.
+They are expanded where they hold no var(), else once that is substituted; the lines are those of horizontal text from left to right.
 """
 import tinycss2
 import tinycss2.color3
 
 from documents.properties import NAMES, is_custom
 
+WITH_VAR = "with var()"  # why nothing can be told yet of what a shorthand gives
 WIDE = frozenset(("initial", "inherit", "unset", "revert", "revert-layer"))
 SIDES = ("top", "right", "bottom", "left")
 
@@ -51,7 +52,7 @@ def expand(node):
     if len(parts) == 1 and parts[0].lower() in WIDE:
         return [(longhand, parts[0]) for longhand in longhands], None
     if holds_var(node.value):
-        return [(longhand, None) for longhand in longhands], f"shorthand {name} with var()"
+        return [(longhand, None) for longhand in longhands], WITH_VAR
     if not all(may_stand(name, token) for token in node.value):
         return [], f"shorthand {name} with a value that it doesn't take"
     values = values_of(name, parts, node.value)

@@ -8,24 +8,27 @@ from documents.places import read_json
 from documents.report import with_labels
 from running import program, trying
 from running.answers import Answer
-from running.hints import NOT_BUILT, hint
+from running.hints import hint
 from running.proving import prove, tell
 from running.words import JOBS, BadWords, is_page, read_words
 
 HELP = """\
 ./run [OPTIONS] [FILE]      computes a document and writes its report; without FILE, or as -, from standard input
-./run [OPTIONS] PAGE.html   computes a web page (python3-html5lib, -cssselect2, -tinycss2; tools/page says more)
+./run [OPTIONS] PAGE.html   computes a web page and the sheets that it names (docs/PAGES.md; tools/needs says what that needs)
+./run reify [OPTIONS] [FILE]    writes objects of Typed OM for declarations and values, in place of the values
+./run gen [--size N]        computes a document of N elements that the program makes itself, and writes three sums of it
 ./run --prove [FILE]        proves and builds the program first, with a line for each crate
+tools/view FILE -o view.html    shows a page or a document in a browser: each element's values, and where they come from
 
   --limit N         the most tokens of a value after substitution, 1 to 32768 (16384)
-  --size N          1 to 4096, for jobs that use it
-  --names           names elements as people do, by the labels that tools/page writes: #3 div.card > p
+  --size N          how many elements gen makes, 1 to 4096 (100)
+  --names           names the elements of a page as people do: #3 div.card > p (else by their numbers alone)
   --viewport WxH    the viewport of a page (1280x720)
   --help            this text
 
 The document is a JSON object (docs/DOCUMENT.md, docs/document.schema.json):
   { "viewport": { "width": 1280, "height": 720 },                 if you want another one
-    "sheet": "@property --gap { .. }",                            a style sheet, for its @property rules
+    "sheet": "@property --gap { .. }",                            a style sheet, of which the @property rules count
     "elements": [ { "parent": null, "style": "--gap: 2px" },      in tree order: first the root,
                   { "parent": 0, "style": "--pad: var(--gap)" } ],    then each after its parent
     "show": ["--pad"] }                                           the names to show, else all that are declared
@@ -37,10 +40,9 @@ exit  line on standard error            when
    3  cssvars: read fault, or run: ..   the document can't be read
    4  cssvars: too large: PART          more than 16 MiB, 16384 elements or 2048 names
    5  cssvars: malformed: WHAT          no JSON, or a member of a wrong kind; a second line says where
-   6  cssvars: out of range: ..         a number of a value is past 64 bits
+   6  cssvars: out of range: ..         a number of this property of this element is too large or too fine to be kept exactly
    7  cssvars: write fault              the report couldn't be written
    8  cssvars: no memory                memory ran out
-   9  cssvars: not built                the document holds what isn't built yet; a second line says what
 """
 MOST_BYTES = 16_777_216
 NO_PROGRAM, BAD_WORDS, NO_INPUT = 1, 2, 3
@@ -66,7 +68,7 @@ def main(arguments):
             return NO_PROGRAM
     except KeyboardInterrupt:
         return 128 + signal.SIGINT
-    if words.prove and words.file is None:
+    if words.prove and words.file is None and not words.has_job:
         return 0
     try:
         data = read_document(words)
@@ -90,10 +92,10 @@ def read_document(words):
         return file.read(MOST_BYTES + 1)
 
 
-def read_page(words, *more):
+def read_page(words):
     """The document of a page, by tools/page; what that leaves out it says itself."""
     options = ["--viewport", words.viewport] if words.viewport else []
-    ended = subprocess.run([sys.executable, PAGE, *options, *more, "--", words.file], stdout=subprocess.PIPE)
+    ended = subprocess.run([sys.executable, PAGE, *options, "--", words.file], stdout=subprocess.PIPE)
     if ended.returncode != 0:
         raise Refused(ended.returncode)
     return ended.stdout
@@ -101,7 +103,7 @@ def read_page(words, *more):
 
 def compute(words, data):
     """Computes a document, and says more where there is more to say; gives the exit status."""
-    answer, data = answer_and_document(words, data)
+    answer = answer_to(words, data)
     if answer is None:
         return NO_PROGRAM
     write_report(named_report(answer.report, data) if words.names and answer.report else answer.report)
@@ -111,17 +113,7 @@ def compute(words, data):
     return answer.status
 
 
-def answer_and_document(words, data, caught=False):
-    """The answer to a document, and that document; of a page the custom properties alone where the program builds no others."""
-    answer = answer_to(words, data, caught)
-    if answer is not None and answer.status == NOT_BUILT and is_page(words.file):
-        tell("the program doesn't build ordinary properties and @property yet: these are the custom properties alone")
-        data = read_page(words, "--only-custom")
-        answer = answer_to(words, data, caught)
-    return answer, data
-
-
-def answer_to(words, data, caught):
+def answer_to(words, data, caught=False):
     """The answer of the proved program, or a first look; None where no program could be had."""
     if program.is_current():
         return run_proved(words, data, caught or words.names or is_page(words.file))

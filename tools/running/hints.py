@@ -1,10 +1,9 @@
-"""Lines of ./run beside the program's one: where a text isn't JSON, what isn't built, and misspelt members."""
+"""Lines of ./run beside the program's one: where a text isn't JSON, and misspelt members."""
 from documents.places import NotJson, read_json
 from documents.schema import findings
 from running.proving import tell
-from running.unbuilt import first_unbuilt
 
-DONE, MALFORMED, NOT_BUILT = 0, 5, 9
+DONE, MALFORMED = 0, 5
 MOST_WARNINGS = 5
 
 
@@ -18,9 +17,7 @@ def hint(status, line, data):
         return
     if status == MALFORMED and "not JSON" in line:
         tell("no place can be told: look for half a surrogate pair (\\ud800), or a number of more than 308 digits")
-    if status == NOT_BUILT:
-        tell(first_unbuilt(document) or "what isn't built can't be told")
-    if status in (DONE, MALFORMED, NOT_BUILT):
+    if status in (DONE, MALFORMED):
         warn_of_members(document)
 
 

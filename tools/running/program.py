@@ -1,5 +1,7 @@
 """The proved program: where it lies, what it is made of, and whether it is newer than its sources."""
+import json
 import os
+import subprocess
 
 TOP = os.path.dirname(os.path.dirname(os.path.dirname(os.path.abspath(__file__))))
 CRATES = os.path.join(TOP, "crates")
@@ -41,6 +43,14 @@ def is_current():
         return False
     built = max(os.path.getmtime(path) for path in (PROGRAM, STAMP) if os.path.exists(path))
     return all(os.path.getmtime(source) <= built for crate in crates_in_order() for source in sources(crate))
+
+
+def report_of(document):
+    """The proved program's report of a document; None where there is no such program, or no report."""
+    if not is_current():
+        return None
+    ended = subprocess.run([PROGRAM, "compute"], input=json.dumps(document).encode(), stdout=subprocess.PIPE, stderr=subprocess.DEVNULL)
+    return ended.stdout.decode("utf-8") if ended.returncode == 0 else None
 
 
 def is_there():

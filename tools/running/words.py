@@ -6,7 +6,7 @@ from typing import List, Optional
 # The program's own options, each with the greatest number that it takes.
 NUMBERS = {"--limit": 32768, "--size": 4096}
 # The program's jobs, and whether each reads a document.
-JOBS = {"compute": True}
+JOBS = {"compute": True, "reify": True, "gen": False}
 
 
 class BadWords(Exception):
@@ -38,6 +38,8 @@ def read_words(arguments):
             take_file(words, word)
         else:
             take_option(words, word, rest)
+    if not JOBS[words.job] and (words.file is not None or words.names):
+        raise BadWords(f"{words.job} reads no document, so it takes neither a file nor --names")
     if words.viewport is not None and not is_page(words.file):
         raise BadWords("--viewport wants a page, FILE.html; a document has its own viewport")
     return words

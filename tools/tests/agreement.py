@@ -15,8 +15,6 @@ from pages.page import read_page
 from tests.known import KNOWN
 from tests.start import PROGRAM
 
-NOT_BUILT = 9
-
 
 @dataclass
 class Difference:
@@ -36,7 +34,6 @@ class Agreement:
 
     agree: int = 0
     differences: list = field(default_factory=list)
-    only_custom: bool = False
 
     def unknown(self):
         """The differences that no reason is known for."""
@@ -45,8 +42,7 @@ class Agreement:
     def spoken(self):
         """The whole in a line, and a line for each reason."""
         counts = Counter(one.reason for one in self.differences if one.reason)
-        alone = "custom properties alone: " if self.only_custom else ""
-        yield f"{alone}{self.agree} values agree, {sum(counts.values())} differ for known reasons, {len(self.unknown())} differ"
+        yield f"{self.agree} values agree, {sum(counts.values())} differ for known reasons, {len(self.unknown())} differ"
         for reason, count in counts.most_common():
             yield f"    {count:5} {reason}"
 
@@ -61,11 +57,9 @@ class Case:
     element: int
     parent: int
     computed: list  # by element, what the browser computes
-    untold: dict
     ignored: set  # pairs of an element and a name of which a declaration was ignored
     known: dict  # pairs of an element and a name that differ for a known reason
     authored: set  # the names that the author's sheets declare on the element
-    dropped: list  # the names whose registration was dropped, since the program doesn't build any yet
 
     def here(self):
         """What the browser computes on the element."""
@@ -83,12 +77,9 @@ def compute(document):
 
 
 def page_and_report(path, width, height):
-    """A page and its report of all names; of the custom ones alone where the program builds no others."""
-    page = read_page(path, width, height)
+    """A page and its report of all names."""
+    page = read_page(path, width, height, report_of=lambda document: compute(document)[1])
     status, report = compute(with_all_names(page.document, NAMES))
-    if status == NOT_BUILT:
-        page = read_page(path, width, height, only_custom=True)
-        status, report = compute(page.document)
     if status != 0:
         raise AssertionError(f"{path}: the program ends with {status}")
     return page, report
@@ -118,12 +109,11 @@ def compare(browser, path, width=1280, height=720):
     browser.open(path)
     computed = read_values(browser, [name for name in names if is_custom(name)], [name for name in names if not is_custom(name)])
     check_elements(page.document["elements"], computed)
-    found = Agreement(only_custom=not any(name in NAMES for name in names))
-    known = {}
+    found, known = Agreement(), {}
     for index, element in enumerate(page.document["elements"]):
         authored = authored_names(element)
-        for name in names:
-            case = Case(values[index, name], computed[index].values[name], name, index, element["parent"], computed, page.untold, ignored, known, authored, page.dropped_names)
+        for name in sorted(names, key=lambda name: name != "font-size"):  # first that on which others rest
+            case = Case(values[index, name], computed[index].values[name], name, index, element["parent"], computed, ignored, known, authored)
             note(found, case, element["label"])
     return found
 

@@ -2,6 +2,7 @@
 
 Each reason goes with a test of one case; the first that holds is the case's.
 """
+from browser.calculation import same_everywhere
 from documents.properties import inherits, is_custom
 
 DISPLAYS = ("inline", "block", "inline-block", "flex", "grid", "contents", "none")
@@ -9,11 +10,6 @@ LENGTHS = ("width", "height", "margin", "padding", "top", "right", "bottom", "le
 KEYWORDS = ("fit-content", "min-content", "max-content", "-webkit-fill-available", "stretch", "anchor-center")
 MONOSPACE = "monospace"
 CONTROLS = ("input", "button", "select", "option", "optgroup", "textarea", "meter", "progress", "dialog", "fieldset", "legend", "iframe")
-
-
-def untold(case):
-    """A shorthand that isn't expanded gives the value."""
-    return case.name in case.untold.get(case.element, ())
 
 
 def follows(case):
@@ -34,16 +30,11 @@ def other_display(case):
 
 def blockified(case):
     """The display is made one of a block."""
-    if case.name != "display" or case.browsers not in ("block", "flex", "grid"):
+    if case.name != "display" or case.ours not in ("inline", "inline-block") or case.browsers != "block":
         return False
     facts, above = case.here().facts, case.above()
     return above is None or facts["float"] != "none" or facts["position"] in ("absolute", "fixed") or "flex" in above.facts["display"] or \
         "grid" in above.facts["display"] or above.facts["display"] == "contents"
-
-
-def automatic_least(case):
-    """The least size is automatic, which is written as 0px where it has no effect."""
-    return case.name in ("min-width", "min-height") and case.ours == "auto" and case.browsers == "0px"
 
 
 def outside_grammar(case):
@@ -57,8 +48,8 @@ def intrinsic(case):
 
 
 def simplified(case):
-    """Numbers of one unit in a min() or max() are made one."""
-    return any(case.ours.startswith(name) and case.browsers.startswith(name) for name in ("min(", "max(", "calc("))
+    """Numbers of one unit in a min() or max() are made one; the calculation is worth the same."""
+    return case.browsers.startswith(("min(", "max(", "calc(", "clamp(")) and same_everywhere(case.ours, case.browsers)
 
 
 def control(case):
@@ -69,11 +60,6 @@ def control(case):
 def monospaced(case):
     """The element is set in a monospaced font."""
     return case.name == "font-size" and MONOSPACE in case.here().facts["font-family"]
-
-
-def unregistered(case):
-    """The name is registered on the page, and the program registers none yet."""
-    return case.name in case.dropped
 
 
 def snapped(case):
@@ -87,11 +73,8 @@ def too_small(case):
 
 
 KNOWN = (
-    ("the program doesn't build @property yet, so the name isn't registered", unregistered),
-    ("a shorthand with var() isn't expanded by tools/page, so what it sets isn't known here", untold),
     ("the display is none of the seven keywords of the program's grammar", other_display),
     ("a browser makes the display of roots, floats, and items of flex and grid boxes one of a block; the program computes no boxes", blockified),
-    ("getComputedStyle writes an automatic min-width or min-height as 0px where it has no effect", automatic_least),
     ("the size is a keyword for the content's size, which the program's grammar leaves out", intrinsic),
     ("the value declared is outside of the program's grammar of the property, so it ignores the declaration, with a note", outside_grammar),
     ("a simplification joins numbers of one unit in min() and max(), which a browser leaves apart beside a percentage", simplified),

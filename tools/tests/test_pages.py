@@ -8,9 +8,10 @@ from tests.start import PAGES, need_packages
 need_packages()
 import tinycss2  # noqa: E402
 
+from browser.calculation import same_everywhere, worth  # noqa: E402
 from documents.styles import winners  # noqa: E402
 from pages.media import Screen, matches  # noqa: E402
-from pages.page import read_page  # noqa: E402
+from pages.page import no_report, read_page  # noqa: E402
 from pages.shorthands import expand  # noqa: E402
 from pages.supports import supported  # noqa: E402
 
@@ -44,6 +45,8 @@ SHORTHANDS = (
     ("box-shadow: none", None),
 )
 
+SHORTHAND = "--cssvars-shorthand-"
+
 
 def tokens(text):
     """The component values of a text."""
@@ -70,16 +73,29 @@ class Conditions(unittest.TestCase):
                 self.assertEqual(None if found is None else dict(found), longhands)
 
 
+class Calculations(unittest.TestCase):
+    """What calculations are worth, by which values of the program and of a browser are compared."""
+
+    def test_worth(self):
+        for text, number in (("calc(1px + 2 * 3px - 50%)", -43), ("clamp(1px, 50%, 9px)", 9), ("calc(100% - (2 * 3px) / 4)", 98.5), ("red", None), ("1em", None)):
+            with self.subTest(text=text):
+                self.assertEqual(worth(text, 100), number)
+
+    def test_same_everywhere(self):
+        self.assertTrue(same_everywhere("min(8px, 5%)", "min(10px, 5%, 8px)"))
+        self.assertFalse(same_everywhere("min(8px, 5%)", "min(10px, 5%)"))
+
+
 class Pages(unittest.TestCase):
     """Documents that are made of pages."""
 
-    def read(self, html, **files):
+    def read(self, html, report_of=no_report, **files):
         """Reads a page with these files beside it."""
         with tempfile.TemporaryDirectory() as folder:
             for name, text in {"page.html": html, **files}.items():
                 with open(os.path.join(folder, name), "w", encoding="utf-8") as file:
                     file.write(text)
-            return read_page(os.path.join(folder, "page.html"))
+            return read_page(os.path.join(folder, "page.html"), report_of=report_of)
 
     def won(self, page, index):
         """The values of the winning declarations of an element that its author made."""
@@ -116,6 +132,35 @@ class Pages(unittest.TestCase):
     def test_registrations_form_the_sheet(self):
         page = self.read("<!doctype html><style>@media screen { @property --a { syntax: '*'; inherits: false } } @media print { @property --b {} }</style>")
         self.assertEqual(page.document["sheet"], "@property --a { syntax: '*'; inherits: false }".replace("'", '"'))
+
+    def test_shorthands_with_var(self):
+        page = "<!doctype html><style>\np { --a: 1px; padding: var(--a) 2px; margin: var(--b); gap: var(--c) }</style><p style='padding-left: 7px'>"
+        asked = []
+
+        def report_of(document):
+            asked.append(document)
+            return f"4 {SHORTHAND}0 = 1px 2px\n4 {SHORTHAND}1 invalid\n4 {SHORTHAND}1 ! missing\n4 {SHORTHAND}2 = red\n"
+
+        found = self.read(page, report_of)
+        self.assertEqual(asked[0]["show"], [f"{SHORTHAND}{number}" for number in range(3)])
+        self.assertIn(f"{SHORTHAND}0:  var(--a) 2px;", asked[0]["elements"][4]["style"])
+        self.assertEqual(self.won(found, 4), {
+            "--a": "1px", "padding-top": "1px", "padding-right": "2px", "padding-bottom": "1px", "padding-left": "7px",
+            **dict.fromkeys(("margin-top", "margin-right", "margin-bottom", "margin-left"), "var(--b)"), "row-gap": "var(--c)", "column-gap": "var(--c)"})
+        self.assertEqual(list(found.left_out.lines()), [])
+        without = self.read(page)
+        self.assertEqual(self.won(without, 4), {"--a": "1px", "padding-left": "7px"})
+        self.assertEqual([line.partition("page.html")[2] for line in without.left_out.lines()],
+                         [f":2: left out: shorthand {name} with var()" for name in ("padding", "margin", "gap")])
+
+    def test_places_may_be_left_out(self):
+        with tempfile.TemporaryDirectory() as folder:
+            path = os.path.join(folder, "page.html")
+            with open(path, "w", encoding="utf-8") as file:
+                file.write("<!doctype html><style>p { --a: 1 }</style><p>")
+            with_places, without = (read_page(path, with_places=with_places).text() for with_places in (True, False))
+        self.assertIn("/* ", with_places)
+        self.assertNotIn("/* ", without)
 
     def test_pages_of_the_folder_are_read(self):
         for name in ("cascade.html", "tokens.html", "properties.html"):

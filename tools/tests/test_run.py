@@ -8,7 +8,6 @@ import unittest
 
 from documents.properties import NAMES
 from running import program
-from running.unbuilt import first_unbuilt
 from running.words import BadWords, Words, read_words
 from tests.start import TOP
 
@@ -19,6 +18,8 @@ TAKEN = (
     (["a b.json", "--limit", "5"], Words(file="a b.json", options=["--limit=5"])),
     (["--limit=007", "--size", "+5", "-"], Words(file="-", options=["--limit=007", "--size=+5"])),
     (["compute", "a.json"], Words(has_job=True, file="a.json")),
+    (["reify", "a.json"], Words(job="reify", has_job=True, file="a.json")),
+    (["gen", "--size", "7"], Words(job="gen", has_job=True, options=["--size=7"])),
     (["./compute"], Words(file="./compute")),
     (["--prove"], Words(prove=True)),
     (["--help"], Words(help=True)),
@@ -26,7 +27,7 @@ TAKEN = (
     (["--", "--names"], Words(file="--names")),
 )
 REFUSED = (["--limt", "5"], ["--limit"], ["--limit", "0"], ["--limit", "32769"], ["--limit", "5", "--limit=5"], ["a", "b"], ["compute", "compute", "b"], ["--size", "x"],
-           ["a.json", "--viewport", "1x1"], ["p.html", "--viewport", "wide"], ["-x"])
+           ["gen", "a.json"], ["gen", "--names"], ["a.json", "--viewport", "1x1"], ["p.html", "--viewport", "wide"], ["-x"])
 
 
 def run(*words, given=b""):
@@ -79,27 +80,25 @@ class AnswersOfRun(unittest.TestCase):
         document = b'{"elements":[{"parent":null,"style":"--a: 1 2"}]}'
         self.assertEqual(run("--limit", "1", given=document)[1], "0 --a invalid\n0 --a ! limit\n")
 
+    def test_a_document_that_the_program_makes(self):
+        status, output, lines = run("gen", "--size", "3")
+        if lines == ["cssvars: bad usage"]:
+            self.skipTest("the program doesn't have the job gen")
+        self.assertEqual((status, output, lines), (0, "elements 3\nwidths 15px\npadding 53px\n", []))
+
     def test_the_place_of_what_is_no_json(self):
         self.assertEqual(run(given=b'{"elements":[}'), (5, "", ["cssvars: malformed: not JSON", "run: line 1, column 14: Expecting value"]))
 
     def test_the_ordinary_names_are_those_of_the_program(self):
         document = {"elements": [{"parent": None}], "show": list(NAMES)}
-        self.assertNotEqual(run(given=json.dumps(document).encode())[0], 5)
+        status, output, lines = run(given=json.dumps(document).encode())
+        self.assertEqual((status, lines), (0, []))
+        self.assertEqual([line.split()[1] for line in output.splitlines()], list(NAMES))
 
     def test_misspelt_members(self):
         status, output, lines = run(given=b'{"elements":[{"parent":null,"sytle":"--a: 1"}]}')
         self.assertEqual((status, output), (0, ""))
         self.assertEqual(lines, ["run: elements/0: nothing reads the member 'sytle'; is 'style' meant?"])
-
-
-class Unbuilt(unittest.TestCase):
-    """What of a document isn't built."""
-
-    def test_it_is_named(self):
-        self.assertIn("@property --a", first_unbuilt({"sheet": "@property --a {}", "elements": []}))
-        self.assertIn("width, declaration 2 of element 0", first_unbuilt({"elements": [{"style": "--a: ';'; @x {} /* color: 1 */ WIDTH: 1px"}]}))
-        self.assertIn("color in show", first_unbuilt({"elements": [{}], "show": ["--a", "color"]}))
-        self.assertIsNone(first_unbuilt({"elements": [{"style": "--a: 1"}]}))
 
 
 if __name__ == "__main__":

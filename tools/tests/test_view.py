@@ -48,6 +48,8 @@ MANY = 16_384
 class ViewShows(unittest.TestCase):
     """What a view shows, and how it is used."""
 
+    opened = 0
+
     @classmethod
     def setUpClass(cls):
         cls.browser = start_browser()
@@ -59,12 +61,21 @@ class ViewShows(unittest.TestCase):
         cls.folder.cleanup()
 
     def open(self, document=None, report=REPORT):
-        """Opens the view of a document."""
-        path = os.path.join(self.folder.name, "view.html")
+        """Opens the view of a document, and waits until it is drawn. Each view is a file of its own, so that none is taken for the one before."""
+        ViewShows.opened += 1
+        path = os.path.join(self.folder.name, f"view{self.opened}.html")
         with open(path, "w", encoding="utf-8") as file:
             file.write(view(Model(document or DOCUMENT, report).data()))
         self.browser.resize(1200, 800)
         self.browser.open(path)
+        self.wait_for("document.querySelector('#label')?.innerText")
+
+    def wait_for(self, script, seconds=60):
+        """Waits until a script in the page gives something."""
+        ends = time.monotonic() + seconds
+        while not self.browser.run(script):
+            self.assertLess(time.monotonic(), ends, f"{script} gives nothing within {seconds} seconds")
+            self.browser.run("new Promise(done => requestAnimationFrame(done))")
 
     def shown(self, selector):
         """The texts of what a selector finds, with each run of whitespace as one space."""
@@ -122,6 +133,7 @@ class ViewShows(unittest.TestCase):
 
     def test_colours_have_swatches(self):
         self.open()
+        self.wait_for("document.querySelector('.swatch i') !== null")
         self.assertEqual(self.browser.run("getComputedStyle(document.querySelector('.swatch i')).backgroundColor"), "rgb(51, 102, 153)")
         self.assertEqual(len(self.shown(".swatch")), 1)
 
@@ -185,10 +197,3 @@ class ViewShows(unittest.TestCase):
         self.browser.press("Enter")
         self.assertEqual(self.chosen(), "element 12345 #12345")
         self.wait_for("document.getElementById('e12345') !== null")
-
-    def wait_for(self, test):
-        """Waits until a test holds in the page."""
-        ends = time.monotonic() + 10
-        while not self.browser.run(test):
-            self.assertLess(time.monotonic(), ends, test)
-            time.sleep(0.05)

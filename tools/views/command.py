@@ -3,7 +3,7 @@ import argparse
 import sys
 
 from documents.places import NotJson, read_json
-from running.command import NO_INPUT, NO_PROGRAM, Refused, answer_and_document, read_document
+from running.command import NO_INPUT, NO_PROGRAM, Refused, answer_to, read_document
 from running.words import Words
 from views.html import view
 from views.model import Model
@@ -18,7 +18,7 @@ def main(arguments):
     try:
         data = read_document(wanted)
         if words.report is None:
-            answer, data = answer_and_document(wanted, data, caught=True)
+            answer = answer_to(wanted, data, caught=True)
             if answer is None:
                 return NO_PROGRAM
             sys.stderr.write(answer.line)

@@ -37,7 +37,8 @@ class Model:
             else:
                 text, name = INVALID if line.value is None else self.text_number(line.value), self.name_number(line.name)
                 own = values[line.element]
-                own.extend([ABSENT] * (name + 1 - len(own)))
+                if name >= len(own):
+                    own.extend([ABSENT] * (name + 1 - len(own)))
                 own[name] = text
         for element, own in zip(self.elements, values):
             above = values[element["parent"]] if element["parent"] is not None else ()

@@ -32,24 +32,28 @@ for (const element of elements) {
 
 // ---- values and where they come from
 
-/** The number of the text of a name on an element, INVALID, or undefined where the report doesn't tell. */
-function valueOf(index, name) {
+// Of the chosen element, by name: the numbers of the texts, and the elements that declare what has its value there.
+let values = new Map(), origins = new Map();
+
+/** Takes the values of an element: one way up the tree for all names. */
+function gather(index) {
+  values = new Map();
+  origins = new Map();
   for (let at = index; at !== null; at = elements[at].parent) {
-    const text = elements[at].set.get(name);
-    if (text !== undefined) return text;
+    for (const [name, text] of elements[at].set) if (!values.has(name)) values.set(name, text);
+    for (const name of elements[at].declared.keys()) if (!origins.has(name) && (at === index || INHERITED[name])) origins.set(name, at);
   }
-  return undefined;
 }
 
-/** Where the value of a name comes from: { kind: "here" | "inherited" | "initial", element }. */
-function originOf(index, name) {
-  if (elements[index].declared.has(name)) return { kind: "here", element: index };
-  if (INHERITED[name]) {
-    for (let at = elements[index].parent; at !== null; at = elements[at].parent) {
-      if (elements[at].declared.has(name)) return { kind: "inherited", element: at };
-    }
-  }
-  return { kind: "initial" };
+/** The number of the text of a name on the chosen element, INVALID, or undefined where the report doesn't tell. */
+function valueOf(name) {
+  return values.get(name);
+}
+
+/** Where the value of a name on the chosen element comes from: { kind: "here" | "inherited" | "initial", element }. */
+function originOf(name) {
+  const element = origins.get(name);
+  return { kind: element === undefined ? "initial" : element === chosen ? "here" : "inherited", element };
 }
 
 function ownLabel(element) {
@@ -142,7 +146,7 @@ function choose(index, keepScroll) {
   drawRows(false);
   made.get(index)?.setAttribute("aria-selected", true);
   tree.setAttribute("aria-activedescendant", "e" + index);
-  showValues();
+  showing ||= requestAnimationFrame(showValues);  // once a frame, however many keys came
 }
 
 function setFolded(index, folded) {
@@ -154,31 +158,39 @@ function setFolded(index, folded) {
 
 // ---- the values of the chosen element
 
-let filter = "all", query = "";
+let filter = "all", query = "", showing = 0;
 
 function showValues() {
+  cancelAnimationFrame(showing);
+  showing = 0;
+  gather(chosen);
   const element = elements[chosen], label = $("label");
   label.replaceChildren(span("", ownLabel(element) + " "), Object.assign(document.createElement("small"), { textContent: "#" + element.index }));
   showPath(element);
-  const all = NAMES.map((_, name) => name).filter(name => valueOf(chosen, name) !== undefined);
+  const all = NAMES.map((_, name) => name).filter(name => valueOf(name) !== undefined);
   const tests = {
     all: () => true,
     declared: name => element.declared.has(name),
     changed: name => element.set.has(name),
-    invalid: name => element.causes.has(name) || valueOf(chosen, name) === INVALID && NAMES[name].startsWith("--") && element.declared.has(name),
+    invalid: name => element.causes.has(name) || valueOf(name) === INVALID && NAMES[name].startsWith("--") && element.declared.has(name),
   };
   for (const button of document.querySelectorAll(".filter")) {
     button.querySelector("span").textContent = all.filter(tests[button.dataset.filter]).length;
     button.setAttribute("aria-pressed", button.dataset.filter === filter);
   }
-  const ranks = all.map(name => [element.declared.has(name) ? 0 : valueOf(chosen, name) !== INVALID ? 1 : 2, name]);
-  const sorted = ranks.sort((a, b) => a[0] - b[0]).map(([, name]) => name);  // declared here, then with a value, then without one
-  const shown = sorted.filter(tests[filter]).filter(name => !query || isHit(chosen, name) || labelHit(element));
+  const sorted = all.map(name => [rankOf(element, name), name]).sort((a, b) => a[0] - b[0]).map(([, name]) => name);
+  const shown = sorted.filter(tests[filter]).filter(name => !query || isHit(name) || labelHit(element));
   const list = shown.map(name => makeValue(element, name));
   if (element.notes.length && filter !== "changed" && !query) list.unshift(makeNotes(element));
   if (!list.length) list.push(Object.assign(document.createElement("div"), { className: "empty", textContent: "No name to show." }));
   $("values").replaceChildren(...list);
   $("values").scrollTop = 0;
+}
+
+/** Where a name stands among the values: first those declared here, then those with a value; custom ones before ordinary ones. */
+function rankOf(element, name) {
+  const group = element.declared.has(name) ? 0 : valueOf(name) !== INVALID ? 2 : 4;
+  return group + (NAMES[name].startsWith("--") ? 0 : 1);
 }
 
 function showPath(element) {
@@ -197,7 +209,7 @@ function goTo(index, text) {
 }
 
 function makeValue(element, name) {
-  const row = document.createElement("div"), value = valueOf(element.index, name), origin = originOf(element.index, name);
+  const row = document.createElement("div"), value = valueOf(name), origin = originOf(name);
   row.className = "value";
   row.dataset.name = NAMES[name];
   const is = document.createElement("div");
@@ -212,7 +224,7 @@ function makeValue(element, name) {
   row.append(marked("name", NAMES[name]), is, makeOrigin(origin, name));
   const cause = element.causes.get(name), declared = element.declared.get(name);
   if (declared && (cause || value === INVALID || TEXTS[declared.text] !== TEXTS[value])) row.append(makeDeclared(TEXTS[declared.text]));
-  if (cause) row.append(span("why", CAUSES[cause] + (cause === "missing" ? missing(element, declared) + "." : "") + actsAs(name, value, element)));
+  if (cause) row.append(span("why", CAUSES[cause] + (cause === "missing" ? missing(declared) + "." : "") + actsAs(name, value, element)));
   return row;
 }
 
@@ -250,10 +262,10 @@ function actsAs(name, value, element) {
   return ` It acts as unset: this is ${INHERITED[name] && element.parent !== null ? "the parent's value" : "the initial value"}.`;
 }
 
-function missing(element, declared) {
+function missing(declared) {
   if (!declared) return "";
   const absent = [...TEXTS[declared.text].matchAll(/var\(\s*(--[^\s,)]+)\s*\)/gi)].map(match => match[1])
-    .filter(name => { const at = NAMES.indexOf(name); return at < 0 || (valueOf(element.index, at) ?? INVALID) === INVALID; });
+    .filter(name => { const at = NAMES.indexOf(name); return at < 0 || (valueOf(at) ?? INVALID) === INVALID; });
   return absent.length ? `: ${[...new Set(absent)].join(", ")}` : "";
 }
 
@@ -304,8 +316,8 @@ function marked(name, text) {
 
 let nameHits = [], textHits = [];
 
-function isHit(index, name) {
-  const value = valueOf(index, name);
+function isHit(name) {
+  const value = valueOf(name);
   return nameHits[name] || value >= 0 && textHits[value] || value === INVALID && "invalid".startsWith(query);
 }
 
