@@ -100,6 +100,40 @@ def declaring_twenty(count):
     return document([(None if i == 0 else i - 1, style) for i in range(count)], show=["--n0"])
 
 
+def registered(name, syntax="<length>", initial="0px", inherits="false"):
+    return f'@property {name} {{ syntax: "{syntax}"; inherits: {inherits}; initial-value: {initial} }}'
+
+
+def registrations(count):
+    """So many registered names that inherit, each declared on the root, over 64 elements that each declare two of them."""
+    sheet = " ".join(registered(f"--n{i}", inherits="true") for i in range(count))
+    root = "; ".join(f"--n{i}: {i}px" for i in range(count))
+    elements = [(None, root)] + [((i - 1) // 2, f"--n{i % count}: 2em; --n{i * 7 % count}: 1px") for i in range(1, 64)]
+    return document(elements, sheet=sheet, show=["--n0"])
+
+
+def registered_chain(count):
+    """A chain of registered names, each of which refers to the one before it."""
+    sheet = " ".join(registered(f"--n{i}") for i in range(count))
+    style = [f"--n{i}: calc(var(--n{i - 1}) + 1px)" for i in range(count - 1, 0, -1)] + ["--n0: 1px"]
+    return document([(None, "; ".join(style))], sheet=sheet, show=[f"--n{count - 1}"])
+
+
+def held_chain(count):
+    """Half as many registered names as names; each holds `em` through a chain of the unregistered ones."""
+    half = count // 2
+    sheet = " ".join(registered(f"--r{i}") for i in range(half))
+    style = ["--u0: 1em"] + [f"--u{i}: var(--u{i - 1})" for i in range(1, half)] + [f"--r{i}: var(--u{i})" for i in range(half)]
+    return document([(None, "; ".join(style))], sheet=sheet, show=[f"--r{half - 1}"])
+
+
+def ordinary_tree(count):
+    """A binary tree whose elements each declare ordinary properties, by variables of the root and by themselves."""
+    root = "--space: 4px; --wide: calc(var(--space) * 3); font-size: 20px; color: #336699"
+    style = "width: calc(100% - 2 * var(--wide)); padding-left: 1em; line-height: 1.5; margin-top: var(--space)"
+    return document([(None, root)] + [((i - 1) // 2, style) for i in range(1, count)], show=["width", "padding-left"])
+
+
 def write_document(path, make, *size):
     """Writes a document in a process of its own: what this one holds would count as memory of the programs that it starts."""
     writer = os.fork()
