@@ -1,5 +1,9 @@
 """Rows that are large or many of a kind: made here, and not stored."""
 
+import json
+
+from ordinary import computed_values
+
 COMPUTE = ["compute"]
 
 
@@ -120,9 +124,67 @@ def long_chains():
 
 def fronts():
     """Each front of a document is no JSON."""
-    document = '{"viewport":{"width":1,"height":2},"elements":[{"parent":null,"style":"--a: \\"1\\""}]}'
-    for end in range(len(document)):
-        yield refused("front-of-%d-bytes" % end, document[:end], 5, "malformed: not JSON")
+    small = styled("--a:  1px ")
+    larger = '{"viewport":{"width":1,"height":2},"elements":[{"parent":null,"style":"--a: \\"1\\""}]}'
+    for name, document in [("small-document", small), ("larger-document", larger)]:
+        for end in range(len(document)):
+            yield refused("front-of-%d-bytes-of-a-%s" % (end, name), document[:end], 5, "malformed: not JSON")
+
+
+# Texts of one token each, or of a whole block, with what the table below calls them.
+TOKENS = [
+    ("a", "ident"), ("-a", "ident"), ("--", "--"), ("f(", "function"), ("url(u)", "url"), ("@a", "at"), ("#a", "hash"), ("#1", "hash"),
+    ('"s"', "string"), ("1", "number"), ("-1", "number"), ("+1", "number"), (".5", "number"), ("1%", "percentage"), ("1px", "dimension"),
+    ("1e-", "dimension"), ("1\\65 1", "dimension"), (" ", "white"), ("<!--", "cdo"), ("-->", "cdc"), (":", ":"), (";", ";"), (",", ","),
+    ("#", "#"), ("-", "-"), ("+", "+"), (".", "."), ("@", "@"), ("/", "/"), ("<", "<"), (">", ">"), ("*", "*"), ("%", "%"), ("!", "!"),
+    ("&", "&"), ("(", "("), ("[", "["), ("{", "{"), ("()", "("), ("[]", "["), ("{}", "{")]
+
+CLOSING = {"f(": ")", "(": ")", "[": "]", "{": "}"}
+
+# CSS Syntax 3, "Serialization": behind which token a comment has to stand before which. A bad url, which the standard has among the
+# names, never gets into a report.
+NAMES = {"ident", "--", "function", "url"}
+NUMERICS = {"number", "percentage", "dimension"}
+SEPARATED = {
+    "ident": NAMES | NUMERICS | {"-", "cdc", "("},
+    "--": NAMES | NUMERICS | {"-", "cdc", "(", ">"},
+    "at": NAMES | NUMERICS | {"-", "cdc"},
+    "hash": NAMES | NUMERICS | {"-", "cdc"},
+    "dimension": NAMES | NUMERICS | {"-", "cdc"},
+    "number": NAMES | NUMERICS | {"cdc", "%"},
+    "#": NAMES | NUMERICS | {"-", "cdc"},
+    "-": NAMES | NUMERICS | {"-", "cdc"},
+    "+": NUMERICS,
+    ".": NUMERICS,
+    "@": NAMES | {"-", "cdc"},
+    "/": {"*"},
+    "<": {"!"},
+}
+
+
+def printed_pair(first, second):
+    """How a report writes two tokens side by side within square brackets; the blocks that they open are closed behind them."""
+    (text, kind), (next_text, next_kind) = first, second
+    if kind == next_kind == "white":
+        return "[ ]"
+    comment = "/**/" if next_kind in SEPARATED.get(kind, ()) else ""
+    return "[" + text + comment + next_text + CLOSING.get(next_text, "") + CLOSING.get(text, "") + "]"
+
+
+def pairs_of_tokens():
+    """Each pair of tokens with a comment between them as it is printed; and what was printed, which is printed as it stands."""
+    pairs = [(first, second) for first in TOKENS for second in TOKENS]
+    printed = [printed_pair(*pair) for pair in pairs]
+    report = "".join("%d --a = %s\n" % line for line in enumerate(printed))
+    apart = ["[" + first[0] + "/**/" + second[0] for first, second in pairs]
+    for name, texts in [("pairs-of-tokens", apart), ("pairs-of-tokens-read-back", printed)]:
+        elements = [{"parent": number - 1 if number else None, "style": "--a: " + text} for number, text in enumerate(texts)]
+        yield done(name, json.dumps({"elements": elements}), report)
+
+
+def ordinary_values():
+    for row in computed_values():
+        yield done(*row)
 
 
 # Names of commands, and the members with which they are refused.
@@ -151,21 +213,7 @@ def bad_commands():
                               "malformed: field commands/1")
 
 
-ORDINARY = """font-size color line-height letter-spacing text-indent visibility orphans display width height min-width
-min-height max-width max-height margin-top margin-right margin-bottom margin-left padding-top padding-right padding-bottom
-padding-left top right bottom left row-gap column-gap opacity z-index order flex-grow flex-shrink background-color
-outline-offset""".split()
-
-
-def unbuilt_properties():
-    """Ordinary properties aren't built yet; that is told before the names are counted."""
-    for name in ORDINARY:
-        yield refused("unbuilt-shown-" + name, '{"elements":[{"parent":null}],"show":["%s"]}' % name, 9, "not built")
-        yield refused("unbuilt-declared-" + name, styled(name + ":0"), 9, "not built")
-    yield refused("unbuilt-before-names", of_names(2049, ',"show":["width"]'), 9, "not built")
-
-
 def rows():
     for some in [nested_documents, nested_values, arrays_at_their_limits, bytes_at_their_limit, names_at_their_limit,
-                 lists_at_the_limit, long_chains, fronts, bad_commands, unbuilt_properties]:
+                 lists_at_the_limit, long_chains, fronts, pairs_of_tokens, ordinary_values, bad_commands]:
         yield from some()
