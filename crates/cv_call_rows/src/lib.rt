@@ -4,6 +4,12 @@
 #[cfg(test)]
 mod colors;
 #[cfg(test)]
+mod copied_declarations;
+#[cfg(test)]
+mod copied_values;
+#[cfg(test)]
+mod copies;
+#[cfg(test)]
 mod cycles;
 #[cfg(test)]
 mod matches;
@@ -13,6 +19,8 @@ mod names;
 mod numbers;
 #[cfg(test)]
 mod numerics;
+#[cfg(test)]
+mod properties;
 #[cfg(test)]
 mod references;
 #[cfg(test)]

@@ -1,9 +1,9 @@
 //! Names, runs and keys.
 
-use cv_props::{Key, Property, key_text};
 use cv_spec_text::{Name, Run};
 use cv_token::tokenise;
 use cv_tokser::print;
+use cv_valuation::{Key, Property, key_text};
 use std::alloc::Global;
 use std::test::Fail;
 

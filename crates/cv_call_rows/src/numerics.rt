@@ -54,7 +54,11 @@ fn operated(
     }
 }
 
-static OPERATED: [(&str, Operation, &str, &[u8]); 13] = [
+static OPERATED: [(&str, Operation, &str, &[u8]); 17] = [
+    ("1px", Operation::Add, "1in", b"calc(1px + 1in)"),
+    ("1px", Operation::Mul, "1px", b"calc(1px * 1px)"),
+    ("1px", Operation::Add, "1s", b"BadType"),
+    ("9223372036854775807px", Operation::Add, "1px", b"Range"),
     ("1px", Operation::Div, "0", b"RangeError"),
     ("6px", Operation::Div, "2", b"3px"),
     ("1px", Operation::Sub, "1px", b"0px"),
@@ -155,6 +159,18 @@ fn sum_values_have_items(rt: HostRuntime) -> Result<(), Fail> {
     for (text, row) in &ITEMS {
         assert_eq!(rt; items(rt.alloc(), text)?.as_slice(), *row, "of {text}");
     }
+    Ok(())
+}
+
+#[test]
+fn sums_and_products_are_read_back(rt: HostRuntime) -> Result<(), Fail> {
+    let alloc = rt.alloc();
+    let length = Numeric::parse(alloc, "1px")?;
+    let sum = length.add(alloc, &Numeric::parse(alloc, "1in")?)?;
+    let pixels = printed(alloc, sum.to(alloc, Unit::Px))?;
+    assert_eq!(rt; pixels.as_slice(), b"97px".as_slice());
+    let square = length.mul(alloc, &length)?;
+    assert!(rt; square.equals(&Numeric::parse(alloc, "calc(1px * 1px)")?));
     Ok(())
 }
 

@@ -125,3 +125,25 @@ fn values_with_their_references_replaced(rt: HostRuntime) -> Result<(), Fail> {
     }
     Ok(())
 }
+
+// A word so many times, with a space between.
+fn repeated(alloc: Global, word: &str, times: usize) -> Result<String, Fail> {
+    let mut text = String::from_str(alloc, word)?;
+    for _ in 1..times {
+        text.push_str(" ")?;
+        text.push_str(word)?;
+    }
+    Ok(text)
+}
+
+#[test]
+fn lists_are_counted_past_the_limit(rt: HostRuntime) -> Result<(), Fail> {
+    let alloc = rt.alloc();
+    let mut values = Runs::new(alloc);
+    let long = tokenise(alloc, &repeated(alloc, "a", 8192)?)?;
+    values.put(Name::of(alloc, "--a")?, Run::of(alloc, long)?)?;
+    let many = repeated(alloc, "var(--a)", 1000)?;
+    let outcome = substituted(alloc, &many, &values, 16384)?;
+    assert_eq!(rt; outcome.as_str(), "OverLimit(16383999)");
+    Ok(())
+}

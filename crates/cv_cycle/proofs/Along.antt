@@ -25,7 +25,7 @@ target_below rows node k to graph below is =
     (All-get_or (λ v. v < length rows) (targets rows node) k 0 (slice_get_within (targets rows node) k to is) row)
 
 -- only a node has edges
-HasEdge-from : (rows : List (List ℕ)) (from to : ℕ) → HasEdge rows from to → from < length rows
+pub HasEdge-from : (rows : List (List ℕ)) (from to : ℕ) → HasEdge rows from to → from < length rows
 HasEdge-from rows from to edge =
     elim (cases_lt from (length rows)) [
       | inl below ↦ below

@@ -11,3 +11,5 @@ pub mod Leaving
 pub mod Beginning
 pub mod Advancing
 pub mod Spreading
+pub mod Distinct
+pub mod Turning

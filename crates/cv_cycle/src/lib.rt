@@ -3,10 +3,12 @@
 
 mod cycles;
 mod order;
+mod reversing;
 mod spread;
 mod stacks;
 mod walk;
 
 pub use cycles::{cyclic, ordered};
 pub use order::Order;
+pub use reversing::reaching;
 pub use spread::reached;

@@ -1,129 +1,135 @@
--- The values before the first name is settled and after the last.
+-- The values before the first property is settled and after the last.
 use Rattle.std.proofs.Common.{◌≡◌, ℕ, ◌<◌, ◌↔◌, Bool, true, false, List, [], length, get_or, Option, Some, None, is_some, refl, sym, ◌∙◌, ap, subst, arith}
 use Rattle.std.specs.Prelude.{Contains, IsSome, slice_get}
-use Rattle.std.specs.FinMap as map
-use Rattle.std.proofs.lemmas.List.{get_or_default}
-use Rattle.std.proofs.lemmas.List.Elements.{Contains-get_or}
-use Rattle.std.proofs.lemmas.Map.Views.{Contains-keys_from_lookup}
+use Rattle.std.specs.List.{IsDistinct}
+use Rattle.std.specs.Map.{keys_of}
 use Rattle.cv_spec_text.specs.declared.token.Token.{Token}
-use Rattle.cv_spec_element.specs.Element.{Element, Outcome}
-use Rattle.cv_spec_element.specs.Dependencies.{undeclared_value}
-use Rattle.cv_spec_element.specs.Valuation.{Cause, IsInvalid, IsSettled, undeclared}
-use Rattle.cv_spec_element.specs.Loose.{loose_outcome, IsLooselyLawful}
+use Rattle.cv_value.specs.declared.typed.Typed.{Typed}
+use Rattle.cv_spec_element.specs.Element.{Outcome}
+use Rattle.cv_spec_element.specs.Dependencies.{Reads, undeclared_value}
+use Rattle.cv_spec_element.specs.Valuation.{Cause, IsInvalid, IsOutOfRange, IsValuation, IsSettled, undeclared}
+use Rattle.cv_spec_element.specs.Valuation as valuation
 use Rattle.cv_subst.specs.Values.{value_in}
-use Rattle.cv_props.specs.declared.computed.Cause.{Cause as Reported}
+use Rattle.cv_valuation.specs.declared.key.Key.{Key}
+use Rattle.cv_valuation.specs.Keys.{same_key}
+use Rattle.cv_valuation.specs.TableLaws.{PropertiesAreFound}
+use Rattle.cv_valuation.specs.Valuations.{Values, outcome_at}
 use Rattle.cv_props.specs.declared.decls.Decl.{Decl}
-use Rattle.cv_props.specs.declared.key.Key.{Key}
-use Rattle.cv_props.specs.declared.key.Key.TheVariants.{Custom, Table}
-use Rattle.cv_property.specs.declared.property.Property.TheVariants.{FontSize}
-use Rattle.cv_props.specs.Keys.{same_key}
-use Rattle.cv_props.specs.TableLaws.{PropertiesAreFound}
-use Rattle.cv_props.specs.Valuations.{Values, outcome_of, outcome_at}
-use Rattle.cv_props.specs.ValuationLaws.{OutcomesAreByKey}
+use Rattle.cv_props.specs.Registered.{Registered}
 use Rattle.cv_props.specs.Winners.{Declarations, declaration_of}
+use Rattle.cv_spec_valuation.specs.declared.place.Place.{Place}
+use Rattle.cv_spec_valuation.specs.Registered.{as_read}
+use Rattle.cv_spec_valuation.specs.Element.{pieces_in, values_of, the_element}
+use Rattle.cv_spec_valuation.specs.Computed.{IsReported}
 use Rattle.cv_element.specs.declared.settling.Settling.{Settling}
-use Rattle.cv_element.specs.Element.{pieces_in, declared_in, is_white, keyword, lists_in, the_element, as_read, values_of, cause_of, ParentIsKept}
-use Rattle.cv_element.specs.Names.{name_at}
-use Rattle.cv_element.specs.Settling.{start_of, IsPlan, key_of, IsSettledKey, IsTold, IsSettling}
-use Rattle.cv_element.proofs.SameKeys.{keys_same, same_key_same}
-use Rattle.cv_element.proofs.Giving.{IsInvalid-agrees}
-use Rattle.cv_element.proofs.Keeping.{parent_kept}
-use Rattle.cv_element.proofs.Stepping.{number_below}
+use Rattle.cv_element.specs.Settling.{key_at, IsPlan, key_of, IsSettledKey, IsTold, IsSettling}
+use Rattle.cv_element.specs.Values.{AnElement, start_at}
+use Rattle.cv_element.proofs.Judged.{start_read}
+use Rattle.cv_element.proofs.Placing.{entry_at, plan_below, declared_at, place_of}
 
 pub some_declared : (o : Option Decl) → IsSome (pieces_in o) → IsSome o
 some_declared None some = some
 some_declared (Some d) some = refl
 
-declared_some : (o : Option Decl) → IsSome o → IsSome (pieces_in o)
-declared_some None some = some
-declared_some (Some d) some = refl
+-- what is kept of causes and ranges
+pub record AreCausesKept (e : AnElement) : Type 0 where
+  pub causes : (values : Key → Outcome Token Typed) → IsValuation e values → (earlier : Key → Outcome Token Typed) (p : Key) → ((q : Key) → Reads e p q → earlier q ≡ values q) → (cause : Cause Key) → IsInvalid e earlier p cause ↔ IsInvalid e values p cause
+  pub ranges : (values : Key → Outcome Token Typed) → IsValuation e values → (earlier : Key → Outcome Token Typed) (p : Key) → ((q : Key) → Reads e p q → earlier q ≡ values q) → IsOutOfRange e earlier p ↔ IsOutOfRange e values p
 
-read_loose : (o : Option (List Token)) → as_read (outcome_of o) ≡ loose_outcome o
-read_loose None = refl
-read_loose (Some list) = refl
+module _ (registered : Registered) (decls : Declarations) (parent : Option Values) (place : Place) (most : ℕ) (found : PropertiesAreFound) (once : IsDistinct same_key (keys_of decls)) (order : List ℕ) (flags : List Bool) (plan : IsPlan (the_element registered decls parent place most) decls order flags) where
+  abbrev e : AnElement
+  e = the_element registered decls parent place most
 
--- what is inherited is what the equations give a name that isn't declared
-pub starts : OutcomesAreByKey → (decls : Declarations) (parent : Option Values) (most : ℕ) (p : Key) → as_read (outcome_at (start_of parent) p) ≡ undeclared_value (the_element decls parent most) p
-starts by_key decls None most p = ap as_read (by_key.none p)
-starts by_key decls (Some values) most p = read_loose (map.get values p)
+  abbrev key : ℕ → Key
+  key = key_of decls order
 
-module _ (decls : Declarations) (parent : Option Values) (most : ℕ) where
-  -- the element may be taken for one of loose properties
-  pub loosely_lawful : PropertiesAreFound → ParentIsKept parent → IsLooselyLawful same_key (Table FontSize) (declared_in decls most) is_white keyword (lists_in parent)
-  loosely_lawful found is_kept = record {
-    same = λ p q. (keys_same found p q, same_key_same p q);
-    listed = λ p some. Contains-keys_from_lookup (keys_same found) p decls (some_declared (declaration_of decls p) some);
-    parent_kept = λ values p list is value. parent_kept parent is_kept values p list is value;
+  -- each declared key has a place in the order
+  settled_key : (p : Key) (d : Decl) → declaration_of decls p ≡ Some d → (i : ℕ) × (i < length decls) × (key i ≡ p)
+  settled_key p d is =
+      let at = place_of found decls once p d is in
+      let stands = (plan.stands at.0).0 at.1 in
+      (stands.0, stands.2, ap (key_at decls) stands.3 ∙ at.2)
+
+  key_declared : (i : ℕ) → i < length decls → (d : Decl) × (declaration_of decls (key i) ≡ Some d)
+  key_declared i below =
+      let at = entry_at decls (get_or order i 0) (plan_below e decls order flags plan i below) in
+      (at.1, subst (λ k. declaration_of decls k ≡ Some at.1) (sym at.3) (declared_at found decls once (get_or order i 0) at.0 at.1 at.2))
+
+  -- before the first property
+  pub settling_first : (s : Settling) → ((p : Key) → outcome_at s.values p ≡ start_at registered parent p) → ((name : List ℕ) → value_in s.runs name ≡ None) → s.faults ≡ [] → s.range ≡ None → IsSettling e decls order (start_at registered parent) 0 s
+  settling_first s values_are runs_are faults_are range_is = record {
+    loaded = λ name list is. absurd (let clash : None ≡ Some list = sym (runs_are name) ∙ is in cc);
+    closed = λ name list is opened. let clash : None ≡ Some list = sym (runs_are name) ∙ is in cc;
+    untouched = λ p unsettled. values_are p;
+    told = λ i lower. absurd (omega arith);
+    faults = λ p cause has. absurd (let below = has.1 in omega (arith, below, ap (λ f. length f) faults_are));
+    range = λ p is. absurd (let clash : None ≡ Some p = sym range_is ∙ is in cc);
+    once = λ i j k one other at_i at_j. absurd (let clash : None ≡ Some (k, one) = ap (λ f. slice_get f i) (sym faults_are) ∙ at_i in cc);
   }
 
-  module _ (names : List (List ℕ)) (order : List ℕ) (flags : List Bool) (plan : IsPlan decls parent most names order flags) where
-    abbrev element : Element Key Token ⊥ ⊥ (Unit {0})
-    element = the_element decls parent most
+  module _ (s : Settling) (now : IsSettling e decls order (start_at registered parent) (length decls) s) where
+    abbrev values : Key → Outcome Token Typed
+    values = values_of s.values
 
-    abbrev key : ℕ → Key
-    key = key_of names order
+    told_at : (p : Key) (d : Decl) → declaration_of decls p ≡ Some d → IsTold e s.values s.faults s.range p
+    told_at p d is =
+        let settled = settled_key p d is in
+        subst (λ x. IsTold e s.values s.faults s.range x) settled.2 (now.told settled.0 settled.1)
 
-    -- each declared key has a place in the order
-    settled_key : (p : Key) → IsSome (declaration_of decls p) → (place : ℕ) × (place < length names) × (key place ≡ p)
-    settled_key p some =
-        let listed = plan.listed p some in
-        let number : ℕ = listed.1.0 in
-        let named : name_at names number ≡ listed.0 = get_or_default names number [] listed.0 listed.1.1 ∙ listed.1.2 in
-        let stands = (plan.stands number).0 listed.1.1 in
-        (stands.0, stands.2, ap (λ i. Custom (name_at names i)) stands.3 ∙ ap Custom named ∙ listed.2)
+    told_settled : (p : Key) → IsSettledKey decls order (length decls) p → IsTold e s.values s.faults s.range p
+    told_settled p settled = subst (λ x. IsTold e s.values s.faults s.range x) settled.2 (now.told settled.0 settled.1)
 
-    place_declared : (place : ℕ) → place < length names → IsSome (declaration_of decls (key place))
-    place_declared place below =
-        plan.declared (name_at names (get_or order place 0)) (Contains-get_or names (get_or order place 0) [] (number_below decls parent most names order flags plan place below))
+    pub settled_is : (p : Key) → IsSettled e values p
+    settled_is p = by (declaration_of decls p) refl
+      where
+        by : (o : Option Decl) → declaration_of decls p ≡ o → IsSettled e values p
+        by (Some d) is =
+            let told = told_at p d is in
+            record { earlier = told.earlier; kept = told.kept; given = told.given }
+        by None is =
+            let unsettled : ¬ IsSettledKey decls order (length decls) p = λ settled.
+            let declared = key_declared settled.0 settled.1 in
+            let clash : None ≡ Some declared.0 = sym is ∙ ap (declaration_of decls) (sym settled.2) ∙ declared.1 in
+            cc in
+            record {
+              earlier = values;
+              kept = λ q reads. refl;
+              given = undeclared (ap pieces_in is) (ap as_read (now.untouched p unsettled) ∙ start_read registered decls parent place most p);
+            }
 
-    module _ (s : Settling) (now : IsSettling decls parent most names order (start_of parent) (length names) s) (by_key : OutcomesAreByKey) where
-      abbrev values : Key → Outcome Token ⊥
-      values = values_of s.values
+    module _ (solves : IsValuation e values) (keeps : AreCausesKept e) (declared : (p : Key) (cause : Cause Key) → IsInvalid e values p cause → IsSome (e.declarations.pieces p)) where
+      some_is : (o : Option Decl) → IsSome o → (d : Decl) × (o ≡ Some d)
+      some_is (Some d) some = (d, refl)
+      some_is None some = let clash : false ≡ true = some in absurd cc
 
-      told_at : (p : Key) → IsSome (declaration_of decls p) → IsTold decls parent most s.values s.faults p
-      told_at p some =
-          let settled = settled_key p some in
-          subst (λ x. IsTold decls parent most s.values s.faults x) settled.2 (now.told settled.0 settled.1)
-
-      pub settled_is : (p : Key) → IsSettled element values p
-      settled_is p = by (declaration_of decls p) refl
+      pub faults_are : (p : Key) (cause : Cause Key) → IsReported s.faults p cause ↔ IsInvalid e values p cause
+      faults_are p cause = (forth, back)
         where
-          by : (o : Option Decl) → declaration_of decls p ≡ o → IsSettled element values p
-          by (Some d) is =
-              let told = told_at p (subst (λ o. IsSome o) (sym is) refl) in
-              record { earlier = told.earlier; kept = told.kept; given = told.given }
-          by None is =
-              let unsettled : ¬ IsSettledKey names order (length names) p = λ settled.
-              let some : IsSome (declaration_of decls p) = subst (λ x. IsSome (declaration_of decls x)) settled.2 (place_declared settled.0 settled.1) in
-              let clash : false ≡ true = ap is_some (sym is) ∙ some in
-              cc in
-              record {
-                earlier = values;
-                kept = λ q reads. refl;
-                given = undeclared (ap pieces_in is) (ap as_read (now.untouched p unsettled) ∙ starts by_key decls parent most p);
-              }
+          forth : IsReported s.faults p cause → IsInvalid e values p cause
+          forth reported =
+              let told = told_settled p (now.faults p reported.0 reported.2) in
+              (keeps.causes values solves told.earlier p told.kept cause).0 ((told.told cause).0 reported)
 
-      pub faults_are : ((p : Key) (cause : Cause Key) → IsInvalid element values p cause → IsSome (element.declarations.pieces p)) → (p : Key) (cause : Reported) → Contains s.faults (p, cause) ↔ IsInvalid element values p (cause_of cause)
-      faults_are declared p cause = (forth, back)
+          back : IsInvalid e values p cause → IsReported s.faults p cause
+          back invalid =
+              let d = some_is (declaration_of decls p) (some_declared (declaration_of decls p) (declared p cause invalid)) in
+              let told = told_at p d.0 d.1 in
+              (told.told cause).1 ((keeps.causes values solves told.earlier p told.kept cause).1 invalid)
+
+      pub ranged : (p : Key) → s.range ≡ Some p → IsOutOfRange e values p
+      ranged p is =
+          let told = told_settled p (now.range p is) in
+          (keeps.ranges values solves told.earlier p told.kept).0 (told.named is)
+
+      range_declared : (p : Key) → IsOutOfRange e values p → (d : Decl) × (declaration_of decls p ≡ Some d)
+      range_declared p out = by (declaration_of decls p) refl
         where
-          forth : Contains s.faults (p, cause) → IsInvalid element values p (cause_of cause)
-          forth has =
-              let settled = now.faults p cause has in
-              let told = told_at p (subst (λ x. IsSome (declaration_of decls x)) settled.2 (place_declared settled.0 settled.1)) in
-              IsInvalid-agrees decls parent most told.earlier values p told.kept cause ((told.told cause).0 has)
+          by : (o : Option Decl) → declaration_of decls p ≡ o → (d : Decl) × (declaration_of decls p ≡ Some d)
+          by (Some d) is = (d, is)
+          by None is = absurd (let clash : None ≡ Some out.1.substituted.sub_is.0 = sym (ap pieces_in is) ∙ out.1.substituted.sub_is.1 in cc)
 
-          back : IsInvalid element values p (cause_of cause) → Contains s.faults (p, cause)
-          back is =
-              let told = told_at p (some_declared (declaration_of decls p) (declared p (cause_of cause) is)) in
-              (told.told cause).1 (IsInvalid-agrees decls parent most values told.earlier p (λ q reads. sym (told.kept q reads)) cause is)
-
-    -- before the first name
-    pub settling_first : (s : Settling) → s.values ≡ start_of parent → ((name : List ℕ) → value_in s.runs name ≡ None) → s.faults ≡ [] → IsSettling decls parent most names order (start_of parent) 0 s
-    settling_first s values_are runs_are faults_are = record {
-      loaded = λ name list is. absurd (let clash : None ≡ Some list = sym (runs_are name) ∙ is in cc);
-      closed = λ name list is opened. let clash : None ≡ Some list = sym (runs_are name) ∙ is in cc;
-      untouched = λ p unsettled. ap (λ v. outcome_at v p) values_are;
-      told = λ place lower. absurd (omega arith);
-      faults = λ p cause has. absurd (let below = has.1 in omega (arith, below, ap (λ f. length f) faults_are));
-      once = λ i j k one other at_i at_j. absurd (let clash : None ≡ Some (k, one) = ap (λ f. slice_get f i) (sym faults_are) ∙ at_i in cc);
-    }
+      pub in_range : s.range ≡ None → (p : Key) → ¬ IsOutOfRange e values p
+      in_range none p out =
+          let d = range_declared p out in
+          let told = told_at p d.0 d.1 in
+          told.in_range none ((keeps.ranges values solves told.earlier p told.kept).1 out)

@@ -2,9 +2,9 @@
 use Rattle.std.proofs.Common.{◌≡◌, ℕ, List, [], ◌∷◌, Option, Some, None, Result, Ok, Err, inl, inr, refl, ◌∙◌, ap}
 use Rattle.cv_spec_text.specs.declared.token.Token.{Token}
 use Rattle.cv_spec_element.specs.Pieces.{Pieces, finish, token, reference, reference_or, RefersTo, value_or, joined, sub}
-use Rattle.cv_props.specs.declared.key.Key.{Key}
-use Rattle.cv_props.specs.declared.key.Key.TheVariants.{Custom}
-use Rattle.cv_element.specs.Element.{keyed}
+use Rattle.cv_valuation.specs.declared.key.Key.{Key}
+use Rattle.cv_valuation.specs.declared.key.Key.TheVariants.{Custom}
+use Rattle.cv_spec_valuation.specs.Element.{keyed}
 
 abbrev Outcome : Type 0
 Outcome = Result (List Token) (List ℕ)

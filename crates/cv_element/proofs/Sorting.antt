@@ -11,11 +11,11 @@ use Rattle.std.proofs.lemmas.List.Edits.{swapped_from_swap}
 use Rattle.std.proofs.lemmas.List.Elements.{All-nil, All-cons}
 use Rattle.std.proofs.lemmas.List.Sorted.{ranks_by, All-permutation, Contains-permutation, IsPermutation-sym, IsPermutation-map, IsPermutation-swap, IsPermutation-keeps, length_permutation}
 use Rattle.std.proofs.lemmas.Option.{get_or_from_slice_get, slice_get_within, slice_get-get_or}
-use Rattle.cv_props.specs.declared.computed.Cause.{Cause}
-use Rattle.cv_props.specs.declared.key.Key.{Key}
-use Rattle.cv_props.specs.Keys.{key_text}
+use Rattle.cv_valuation.specs.declared.computed.Cause.{Cause}
+use Rattle.cv_valuation.specs.declared.key.Key.{Key}
+use Rattle.cv_valuation.specs.Keys.{key_text}
 use Rattle.cv_element.specs.declared.faults.Named.{Named}
-use Rattle.cv_element.specs.Element.{Faults, IsOnce, IsByName}
+use Rattle.cv_spec_valuation.specs.Computed.{Faults, IsOnce, IsByName}
 use Rattle.cv_element.specs.FaultNames.{named, fault_of}
 
 -- the order by the names

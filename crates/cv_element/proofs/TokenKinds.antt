@@ -3,9 +3,9 @@ use Rattle.std.proofs.Common.{◌≡◌, ℕ, false, List, [], ◌∷◌, None, 
 use Rattle.cv_spec_text.specs.declared.token.Token.{Token}
 use Rattle.cv_spec_text.specs.declared.token.Token.TheVariants.{Ident, Function, At, Hash, Str, BadStr, Url, BadUrl, Delim, Number, Percentage, Dimension, White, Cdo, Cdc, Colon, Semicolon, Comma, Open, Close}
 use Rattle.cv_component.specs.TopLevel.{trim_front}
-use Rattle.cv_props.specs.Valuations.{is_keyword}
-use Rattle.cv_element.specs.Element.{is_white, keyword}
-use Rattle.cv_element.specs.Answers.{word_of}
+use Rattle.cv_value_laws.specs.Values.{is_keyword}
+use Rattle.cv_component.specs.Parts.{is_white}
+use Rattle.cv_spec_valuation.specs.Element.{keyword}
 
 -- a token that isn't whitespace stays at the front
 pub record Stays (t : Token) : Type 0 where
@@ -37,30 +37,29 @@ white_or_not (Close bracket) = inr (record { is = refl; front = λ rest. refl })
 -- a token that is no ident is no keyword
 pub record IsNoKeyword (t : Token) : Type 0 where
   pub keyword_is : keyword t ≡ None
-  pub word_is : word_of t ≡ None
   pub alone : is_keyword (t ∷ []) ≡ false
 
 pub ident_or_not : (t : Token) → ((name : List ℕ) × (t ≡ Ident name)) ⊎ IsNoKeyword t
 ident_or_not (Ident name) = inl (name, refl)
-ident_or_not (Function name) = inr (record { keyword_is = refl; word_is = refl; alone = refl })
-ident_or_not (At name) = inr (record { keyword_is = refl; word_is = refl; alone = refl })
-ident_or_not (Hash name id) = inr (record { keyword_is = refl; word_is = refl; alone = refl })
-ident_or_not (Str text) = inr (record { keyword_is = refl; word_is = refl; alone = refl })
-ident_or_not BadStr = inr (record { keyword_is = refl; word_is = refl; alone = refl })
-ident_or_not (Url text) = inr (record { keyword_is = refl; word_is = refl; alone = refl })
-ident_or_not BadUrl = inr (record { keyword_is = refl; word_is = refl; alone = refl })
-ident_or_not (Delim c) = inr (record { keyword_is = refl; word_is = refl; alone = refl })
-ident_or_not (Number number) = inr (record { keyword_is = refl; word_is = refl; alone = refl })
-ident_or_not (Percentage number) = inr (record { keyword_is = refl; word_is = refl; alone = refl })
-ident_or_not (Dimension number unit) = inr (record { keyword_is = refl; word_is = refl; alone = refl })
-ident_or_not White = inr (record { keyword_is = refl; word_is = refl; alone = refl })
-ident_or_not Cdo = inr (record { keyword_is = refl; word_is = refl; alone = refl })
-ident_or_not Cdc = inr (record { keyword_is = refl; word_is = refl; alone = refl })
-ident_or_not Colon = inr (record { keyword_is = refl; word_is = refl; alone = refl })
-ident_or_not Semicolon = inr (record { keyword_is = refl; word_is = refl; alone = refl })
-ident_or_not Comma = inr (record { keyword_is = refl; word_is = refl; alone = refl })
-ident_or_not (Open bracket) = inr (record { keyword_is = refl; word_is = refl; alone = refl })
-ident_or_not (Close bracket) = inr (record { keyword_is = refl; word_is = refl; alone = refl })
+ident_or_not (Function name) = inr (record { keyword_is = refl; alone = refl })
+ident_or_not (At name) = inr (record { keyword_is = refl; alone = refl })
+ident_or_not (Hash name id) = inr (record { keyword_is = refl; alone = refl })
+ident_or_not (Str text) = inr (record { keyword_is = refl; alone = refl })
+ident_or_not BadStr = inr (record { keyword_is = refl; alone = refl })
+ident_or_not (Url text) = inr (record { keyword_is = refl; alone = refl })
+ident_or_not BadUrl = inr (record { keyword_is = refl; alone = refl })
+ident_or_not (Delim c) = inr (record { keyword_is = refl; alone = refl })
+ident_or_not (Number number) = inr (record { keyword_is = refl; alone = refl })
+ident_or_not (Percentage number) = inr (record { keyword_is = refl; alone = refl })
+ident_or_not (Dimension number unit) = inr (record { keyword_is = refl; alone = refl })
+ident_or_not White = inr (record { keyword_is = refl; alone = refl })
+ident_or_not Cdo = inr (record { keyword_is = refl; alone = refl })
+ident_or_not Cdc = inr (record { keyword_is = refl; alone = refl })
+ident_or_not Colon = inr (record { keyword_is = refl; alone = refl })
+ident_or_not Semicolon = inr (record { keyword_is = refl; alone = refl })
+ident_or_not Comma = inr (record { keyword_is = refl; alone = refl })
+ident_or_not (Open bracket) = inr (record { keyword_is = refl; alone = refl })
+ident_or_not (Close bracket) = inr (record { keyword_is = refl; alone = refl })
 
 -- two tokens are no keyword
 pub two_no_keyword : (t second : Token) (rest : List Token) → is_keyword (t ∷ second ∷ rest) ≡ false

@@ -8,29 +8,27 @@ use Rattle.cv_spec_text.specs.Splits.{IsSpelt}
 use Rattle.std.proofs.lemmas.List.{reverse-reverse, reverse-append}
 use Rattle.cv_spec_text.specs.declared.token.Token.{Token}
 use Rattle.cv_spec_text.specs.declared.token.Token.TheVariants.{White}
-use Rattle.cv_spec_element.specs.Words.{Words}
 use Rattle.cv_spec_element.specs.Words as words
 use Rattle.cv_component.specs.TopLevel.{trim_front, trim_end}
 use Rattle.cv_var.specs.References.{is_var, has_var}
-use Rattle.cv_props.specs.Valuations.{trim}
-use Rattle.cv_element.specs.Element.{is_white, keyword}
+use Rattle.cv_component.specs.Parts.{trim}
+use Rattle.cv_spec_valuation.specs.declared.place.Place.{Place}
+use Rattle.cv_spec_valuation.specs.Element.{words_at}
 use Rattle.cv_element.proofs.TokenKinds.{Stays, white_or_not}
 
-abbrev pub element_words : Words Token ⊥
-element_words = record { is_white = is_white; keyword = keyword; unit = λ t. None; is_font_unit = λ u. false }
+module _ (place : Place) where
+  pub front_same : (list : List Token) → words.trim_front (words_at place) list ≡ trim_front list
+  front_same [] = refl
+  front_same (t ∷ rest) = by (front_same rest) (white_or_not t)
+    where
+      by : words.trim_front (words_at place) rest ≡ trim_front rest → (t ≡ White) ⊎ Stays t → words.trim_front (words_at place) (t ∷ rest) ≡ trim_front (t ∷ rest)
+      by same (inl white) = subst (λ x. words.trim_front (words_at place) (x ∷ rest) ≡ trim_front (x ∷ rest)) (sym white) same
+      by same (inr stays) = ap (λ b. cond b (words.trim_front (words_at place) rest) (t ∷ rest)) stays.is ∙ sym (stays.front rest)
 
-pub front_same : (list : List Token) → words.trim_front element_words list ≡ trim_front list
-front_same [] = refl
-front_same (t ∷ rest) = by (front_same rest) (white_or_not t)
-  where
-    by : words.trim_front element_words rest ≡ trim_front rest → (t ≡ White) ⊎ Stays t → words.trim_front element_words (t ∷ rest) ≡ trim_front (t ∷ rest)
-    by same (inl white) = subst (λ x. words.trim_front element_words (x ∷ rest) ≡ trim_front (x ∷ rest)) (sym white) same
-    by same (inr stays) = ap (λ b. cond b (words.trim_front element_words rest) (t ∷ rest)) stays.is ∙ sym (stays.front rest)
-
-pub trim_same : (list : List Token) → words.trim element_words list ≡ trim list
-trim_same list =
-    ap (λ x. reverse (words.trim_front element_words (reverse x))) (front_same list)
-    ∙ ap reverse (front_same (reverse (trim_front list)))
+  pub trim_same : (list : List Token) → words.trim (words_at place) list ≡ trim list
+  trim_same list =
+      ap (λ x. reverse (words.trim_front (words_at place) (reverse x))) (front_same list)
+      ∙ ap reverse (front_same (reverse (trim_front list)))
 
 -- a list that begins with no whitespace
 abbrev Begins : List Token → Type 0

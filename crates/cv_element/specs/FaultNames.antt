@@ -1,7 +1,7 @@
 -- Faults with the names by which they are sorted.
-use Rattle.cv_props.specs.declared.computed.Cause.{Cause}
-use Rattle.cv_props.specs.declared.key.Key.{Key}
-use Rattle.cv_props.specs.Keys.{key_text}
+use Rattle.cv_valuation.specs.declared.computed.Cause.{Cause}
+use Rattle.cv_valuation.specs.declared.key.Key.{Key}
+use Rattle.cv_valuation.specs.Keys.{key_text}
 use Rattle.cv_element.specs.declared.faults.Named.{Named}
 
 -- the fault with the name of its key

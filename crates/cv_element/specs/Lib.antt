@@ -1,7 +1,10 @@
-pub mod Element
-pub mod Names
-pub mod Counting
+pub mod Keywords
+pub mod Values
+pub mod Judging
 pub mod Answers
 pub mod Settling
+pub mod Places
+pub mod Counting
+pub mod Holding
 pub mod FaultNames
-pub mod Single
+pub mod Starting

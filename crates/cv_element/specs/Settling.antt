@@ -1,92 +1,118 @@
--- How the values of an element are settled, one name after another. The contracts of the private functions cite it.
-use Rattle.std.specs.Prelude.{ℕ, ◌≡◌, ◌<◌, ◌≤◌, ◌↔◌, ◌⊎◌, Bool, false, List, [], ◌∷◌, ◌++◌, length, Option, Some, None, Result, Ok, Err, Contains, IsSome, slice_index}
-use Rattle.std.specs.FinMap as map
+-- How the values of an element are settled, one property after another. The contracts of the private functions cite it.
+use Rattle.std.specs.Prelude.{ℕ, ◌≡◌, ◌<◌, ◌≤◌, ◌↔◌, ◌⊎◌, Bool, false, if◌then◌else◌, List, [], ◌∷◌, ◌++◌, length, Option, Some, None, Result, Ok, Err, Contains, slice_get, slice_index}
 use Rattle.cv_cycle.specs.Marks.{IsMarked, StandsIn}
 use Rattle.cv_spec_text.specs.declared.token.Token.{Token}
-use Rattle.cv_spec_element.specs.Pieces.{sub}
+use Rattle.cv_value.specs.declared.typed.Typed.{Typed}
+use Rattle.cv_property.specs.declared.property.Property.TheVariants.{FontSize}
+use Rattle.cv_spec_element.specs.Pieces.{RefersTo, sub}
 use Rattle.cv_spec_element.specs.Element.{Outcome}
 use Rattle.cv_spec_element.specs.Dependencies.{Reads, DependsOnItself}
-use Rattle.cv_spec_element.specs.Valuation.{IsInvalid, Gives}
+use Rattle.cv_spec_element.specs.Valuation.{Cause, IsInvalid, IsOutOfRange, Gives}
 use Rattle.cv_subst.specs.Values.{value_in}
+use Rattle.cv_var.specs.Checked.{IsChecked}
 use Rattle.cv_var.specs.References.{pieces_of}
-use Rattle.cv_spec_element.specs.Pieces.{RefersTo}
-use Rattle.cv_props.specs.declared.computed.Cause.{Cause}
-use Rattle.cv_props.specs.declared.key.Key.{Key}
-use Rattle.cv_props.specs.declared.key.Key.TheVariants.{Custom}
-use Rattle.cv_props.specs.declared.outcome.Outcome.{Outcome as Kept}
-use Rattle.cv_props.specs.declared.outcome.Outcome.TheVariants.{Invalid}
-use Rattle.cv_props.specs.Valuations.{Values, outcome_at, with_outcome}
-use Rattle.cv_props.specs.Valuations as valuations
-use Rattle.cv_props.specs.Winners.{Declarations, declaration_of}
+use Rattle.cv_valuation.specs.declared.computed.Cause.{Cause as Reported}
+use Rattle.cv_valuation.specs.declared.key.Key.{Key}
+use Rattle.cv_valuation.specs.declared.key.Key.TheVariants.{Custom, Table}
+use Rattle.cv_valuation.specs.declared.outcome.Outcome.{Outcome as Kept}
+use Rattle.cv_valuation.specs.Valuations.{Values, outcome_at, outcome_tokens, with_outcome}
+use Rattle.cv_props.specs.declared.decls.Decl.{Decl}
+use Rattle.cv_props.specs.Registered.{Registered}
+use Rattle.cv_props.specs.Winners.{Declarations}
+use Rattle.cv_spec_valuation.specs.declared.place.Place.{Place}
+use Rattle.cv_spec_valuation.specs.Element.{values_of}
+use Rattle.cv_spec_valuation.specs.Computed.{Faults, IsOnce, IsReported}
+use Rattle.cv_element.specs.declared.judging.Verdict.{Verdict}
+use Rattle.cv_element.specs.declared.judging.Verdict.TheVariants.{Used, Refused, OutOfRange}
 use Rattle.cv_element.specs.declared.settling.Settling.{Settling}
-use Rattle.cv_element.specs.Element.{the_element, values_of, cause_of, Faults, IsOnce}
-use Rattle.cv_element.specs.Names.{name_at, IsReference}
-use Rattle.cv_element.specs.Answers.{IsAnswer, outcome_by}
+use Rattle.cv_element.specs.Answers.{IsAnswer, is_counted}
+use Rattle.cv_element.specs.Judging.{verdict_after}
+use Rattle.cv_element.specs.Values.{AnElement, start_at, invalid_at}
+
+-- the key at this place of the declarations
+abbrev pub key_in : Option (Key × Decl) → Key
+key_in None = Table FontSize
+key_in (Some entry) = entry.0
+
+abbrev pub key_at : Declarations → ℕ → Key
+key_at decls place = key_in (slice_get decls place)
 
 abbrev pub Runs : Type 0
 Runs = List (List ℕ × List Token)
 
+-- the tokens that a reference to the name stands for
+abbrev pub value_at : Values → List ℕ → Option (List Token)
+value_at values name = outcome_tokens (outcome_at values (Custom name))
+
 -- what is loaded stands among the values
 abbrev pub IsLoaded : Runs → Values → Type 0
-IsLoaded runs values = (name : List ℕ) (list : List Token) → value_in runs name ≡ Some list → valuations.values_of values name ≡ Some list
+IsLoaded runs values = (name : List ℕ) (list : List Token) → value_in runs name ≡ Some list → value_at values name ≡ Some list
 
-abbrev pub outcome_from : Result (List Token) Cause → Kept → Kept
-outcome_from (Ok list) inherited = outcome_by list inherited
-outcome_from (Err cause) inherited = Invalid
+abbrev pub value_for : Registered → Option Values → Key → Verdict → Kept
+value_for registered parent key (Used outcome) = outcome
+value_for registered parent key (Refused cause) = invalid_at registered parent key
+value_for registered parent key OutOfRange = start_at registered parent key
 
-abbrev pub faults_after : Faults → Key → Result (List Token) Cause → Faults
-faults_after faults key (Ok list) = faults
-faults_after faults key (Err cause) = faults ++ (key, cause) ∷ []
+abbrev pub faults_after : Faults → Key → Verdict → Faults
+faults_after faults key (Used outcome) = faults
+faults_after faults key (Refused cause) = faults ++ (key, cause) ∷ []
+faults_after faults key OutOfRange = faults
 
--- one more name is settled
-pub record Settles (name : List ℕ) (declared : List Token) (cyclic : Bool) (limit : ℕ) (s s' : Settling) : Type 0 where
+abbrev pub first_of : Option Key → Key → Option Key
+first_of None key = Some key
+first_of (Some first) key = Some first
+
+abbrev pub range_after : Option Key → Key → Verdict → Option Key
+range_after range key (Used outcome) = range
+range_after range key (Refused cause) = range
+range_after range key OutOfRange = first_of range key
+
+-- one more property is settled
+pub record Settles (registered : Registered) (parent : Option Values) (place : Place) (key : Key) (declared : List Token) (cyclic : Bool) (limit : ℕ) (s s' : Settling) : Type 0 where
+  pub checked : IsChecked declared
   pub loaded : IsLoaded s'.runs s.values
   pub more : (other : List ℕ) → (value_in s'.runs other ≡ value_in s.runs other) ⊎ ((cyclic ≡ false) × RefersTo (pieces_of declared) other)
-  pub answer : Result (List Token) Cause
-  pub is_answer : IsAnswer cyclic (sub (valuations.values_of s.values) (pieces_of declared)) limit answer
-  pub values : s'.values ≡ with_outcome s.values (Custom name) (outcome_from answer (outcome_at s.values (Custom name)))
-  pub faults : s'.faults ≡ faults_after s.faults (Custom name) answer
+  pub answer : Result (List Token) Reported
+  pub is_answer : IsAnswer (is_counted key declared) cyclic (sub (value_at s.values) (pieces_of declared)) limit answer
+  pub values : s'.values ≡ with_outcome s.values key (value_for registered parent key (verdict_after registered parent place s.values key answer))
+  pub faults : s'.faults ≡ faults_after s.faults key (verdict_after registered parent place s.values key answer)
+  pub range : s'.range ≡ range_after s.range key (verdict_after registered parent place s.values key answer)
 
--- the values before a name is settled: those that are inherited
-abbrev pub start_of : Option Values → Values
-start_of None = map.empty
-start_of (Some values) = values
+-- The places of the declarations in an order in which each comes behind those that its equation reads.
+pub record IsPlan (e : AnElement) (decls : Declarations) (order : List ℕ) (flags : List Bool) : Type 0 where
+  pub stands : (place : ℕ) → (place < length decls) ↔ StandsIn order 0 (length decls) place
+  pub once : (i j : ℕ) → i < length decls → j < length decls → slice_index order i ≡ slice_index order j → i ≡ j
+  pub cyclic : (place : ℕ) → place < length decls → IsMarked flags place ↔ DependsOnItself e (key_at decls place)
+  pub earlier : (i to : ℕ) → i < length decls → to < length decls → Reads e (key_at decls (slice_index order i)) (key_at decls to) → StandsIn order 0 i to
 
--- the numbers of the declared names in an order in which each name comes behind those that it refers to, if it is on no cycle
-pub record IsPlan (decls : Declarations) (parent : Option Values) (most : ℕ) (names : List (List ℕ)) (order : List ℕ) (flags : List Bool) : Type 0 where
-  pub apart : (i j : ℕ) → i < length names → j < length names → name_at names i ≡ name_at names j → i ≡ j
-  pub listed : (key : Key) → IsSome (declaration_of decls key) → (name : List ℕ) × Contains names name × (Custom name ≡ key)
-  pub declared : (name : List ℕ) → Contains names name → IsSome (declaration_of decls (Custom name))
-  pub stands : (number : ℕ) → (number < length names) ↔ StandsIn order 0 (length names) number
-  pub once : (i j : ℕ) → i < length names → j < length names → slice_index order i ≡ slice_index order j → i ≡ j
-  pub cyclic : (number : ℕ) → number < length names → IsMarked flags number ↔ DependsOnItself (the_element decls parent most) (Custom (name_at names number))
-  pub earlier : (place to : ℕ) → place < length names → ¬ IsMarked flags (slice_index order place) → IsReference decls names (slice_index order place) to → StandsIn order 0 place to
-
--- the key of the name at this place of the order
-abbrev pub key_of : List (List ℕ) → List ℕ → ℕ → Key
-key_of names order place = Custom (name_at names (slice_index order place))
+-- the key that comes at this place of the order
+abbrev pub key_of : Declarations → List ℕ → ℕ → Key
+key_of decls order i = key_at decls (slice_index order i)
 
 -- the key is one of the first so many of the order
-abbrev pub IsSettledKey : List (List ℕ) → List ℕ → ℕ → Key → Type 0
-IsSettledKey names order count key = (place : ℕ) × (place < count) × (key_of names order place ≡ key)
+abbrev pub IsSettledKey : Declarations → List ℕ → ℕ → Key → Type 0
+IsSettledKey decls order count key = (i : ℕ) × (i < count) × (key_of decls order i ≡ key)
 
 -- the key is one of the others of the order
-abbrev pub IsOpenKey : List (List ℕ) → List ℕ → ℕ → Key → Type 0
-IsOpenKey names order count key = (place : ℕ) × (count ≤ place) × (place < length names) × (key_of names order place ≡ key)
+abbrev pub IsOpenKey : Declarations → List ℕ → ℕ → Key → Type 0
+IsOpenKey decls order count key = (i : ℕ) × (count ≤ i) × (i < length decls) × (key_of decls order i ≡ key)
 
--- The key has its value and its cause by what the equations gave where they read the values of a moment, and what they read
--- stands unchanged.
-pub record IsTold (decls : Declarations) (parent : Option Values) (most : ℕ) (values : Values) (faults : Faults) (key : Key) : Type 0 where
-  pub earlier : Key → Outcome Token ⊥
-  pub kept : (q : Key) → Reads (the_element decls parent most) key q → earlier q ≡ values_of values q
-  pub given : Gives (the_element decls parent most) earlier key (values_of values key)
-  pub told : (cause : Cause) → Contains faults (key, cause) ↔ IsInvalid (the_element decls parent most) earlier key (cause_of cause)
+-- The key has its value, its cause and its range by what the equations gave where they read the values of a moment, and what they
+-- read stands unchanged.
+pub record IsTold (e : AnElement) (values : Values) (faults : Faults) (range : Option Key) (key : Key) : Type 0 where
+  pub earlier : Key → Outcome Token Typed
+  pub kept : (q : Key) → Reads e key q → earlier q ≡ values_of values q
+  pub given : Gives e earlier key (values_of values key)
+  pub told : (cause : Cause Key) → IsReported faults key cause ↔ IsInvalid e earlier key cause
+  pub named : range ≡ Some key → IsOutOfRange e earlier key
+  pub in_range : range ≡ None → ¬ IsOutOfRange e earlier key
 
--- the first so many names of the order are settled
-pub record IsSettling (decls : Declarations) (parent : Option Values) (most : ℕ) (names : List (List ℕ)) (order : List ℕ) (start : Values) (count : ℕ) (s : Settling) : Type 0 where
+-- the first so many properties of the order are settled
+pub record IsSettling (e : AnElement) (decls : Declarations) (order : List ℕ) (start : Key → Kept) (count : ℕ) (s : Settling) : Type 0 where
   pub loaded : IsLoaded s.runs s.values
-  pub closed : (name : List ℕ) (list : List Token) → value_in s.runs name ≡ Some list → ¬ IsOpenKey names order count (Custom name)
-  pub untouched : (key : Key) → ¬ IsSettledKey names order count key → outcome_at s.values key ≡ outcome_at start key
-  pub told : (place : ℕ) → place < count → IsTold decls parent most s.values s.faults (key_of names order place)
-  pub faults : (key : Key) (cause : Cause) → Contains s.faults (key, cause) → IsSettledKey names order count key
+  pub closed : (name : List ℕ) (list : List Token) → value_in s.runs name ≡ Some list → ¬ IsOpenKey decls order count (Custom name)
+  pub untouched : (key : Key) → ¬ IsSettledKey decls order count key → outcome_at s.values key ≡ start key
+  pub told : (i : ℕ) → i < count → IsTold e s.values s.faults s.range (key_of decls order i)
+  pub faults : (key : Key) (cause : Reported) → Contains s.faults (key, cause) → IsSettledKey decls order count key
+  pub range : (key : Key) → s.range ≡ Some key → IsSettledKey decls order count key
   pub once : IsOnce s.faults

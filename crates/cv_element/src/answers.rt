@@ -1,72 +1,48 @@
-//! What a declaration gives.
+//! What substitution makes of a declaration.
 
-ghost use Rattle.std.specs.Prelude.{◌≡◌, ◌≤◌, All, false, IfOk};
-ghost use Rattle.std.specs.Option.{option_copied};
+ghost use Rattle.std.specs.Prelude.{◌≡◌, ◌≤◌, false, IfOk};
 ghost use Rattle.cv_spec_element.specs.Pieces.{sub};
-ghost use Rattle.cv_spec_text.specs.Splits.{IsSpelt};
-ghost use Rattle.cv_component.specs.TopLevel.{trim_front, trim_end};
 ghost use Rattle.cv_subst.specs.Values.{value_in};
 ghost use Rattle.cv_var.specs.References.{pieces_of, has_var};
-ghost use Rattle.cv_props.specs.Valuations.{MayKeep};
-ghost use Rattle.cv_element.specs.Answers.{IsAnswer, keyword_in, outcome_by};
+ghost use Rattle.cv_element.specs.Answers.{IsAnswer, is_counted};
 
-use crate::refusal::ElemErr;
-use cv_component::{trim_end, trim_front};
-use cv_props::{Cause, Key, Outcome};
-use cv_spec_text::{Name, OutOfMemory, Run, Token};
+use cv_props::{Cause, Key};
+use cv_spec_text::{OutOfMemory, Run};
 use cv_subst::{Runs, SubstErr, substitute};
-use cv_var::Declared;
+use cv_var::{Declared, pieces_are_read};
 use std::alloc::Global;
 
-/// The declared list with its references replaced, or why it is invalid at computed-value time, where it is on no cycle.
+// Whether the limit is asked of the list.
+fn is_counted(key: &Key, declared: &Declared) -> bool
+    ensures { result ≡ is_counted key.now declared.now }
+{
+    match key {
+        Key::Custom(_) => true,
+        Key::Table(_) => declared.has_var(),
+    }
+}
+
+/// The declared list with its references replaced, or why the property is invalid at computed-value time, where it is on no cycle. The
+/// list of an ordinary property without references is no longer than it was written, and isn't counted.
 pub fn answer(
     alloc: Global,
+    key: &Key,
     declared: &Declared,
     values: &Runs,
     limit: u32,
-) -> Result<Result<Run, Cause>, ElemErr>
+) -> Result<Result<Run, Cause>, OutOfMemory>
     requires some { 1 ≤ limit }
     requires most { limit ≤ 32768 }
-    ensures { IfOk result (IsAnswer false (sub (value_in values.now) (pieces_of declared.now)) limit) }
+    ensures { IfOk result (IsAnswer (is_counted key.now declared.now) false (sub (value_in values.now) (pieces_of declared.now)) limit) }
 {
+    pieces_are_read();
+    if !is_counted(key, declared) {
+        return Ok(Ok(declared.run().share()?));
+    }
     match substitute(alloc, declared, values, limit) {
         Ok(bounded) => Ok(Ok(bounded.into_run())),
         Err(SubstErr::Missing(name)) => Ok(Err(Cause::Missing(name))),
         Err(SubstErr::OverLimit(count)) => Ok(Err(Cause::Limit(count))),
-        Err(SubstErr::Memory) => Err(ElemErr::Memory),
-    }
-}
-
-fn copied(alloc: Global, tokens: &[Token]) -> Result<Vec<Token>, OutOfMemory>
-    ensures { IfOk result (λ all. all.items ≡ tokens.now) }
-{
-    let mut all = Vec::new(alloc);
-    for token in tokens {
-        all.push(token.copy()?)?;
-    }
-    Ok(all)
-}
-
-// The CSS-wide keyword that the trimmed list is, as its name.
-fn keyword_in(trimmed: &[Token]) -> Option<&Name>
-    ensures { option_copied result ≡ keyword_in trimmed.now }
-{
-    match trimmed {
-        [Token::Ident(name)] if name.is_css_wide_keyword() => Some(name),
-        _ => None,
-    }
-}
-
-/// What the list gives: for a CSS-wide keyword the initial value, which is invalid, or the inherited one; else the trimmed
-/// list.
-pub fn outcome_of(alloc: Global, list: &Run, inherited: &Outcome) -> Result<Outcome, OutOfMemory>
-    ensures outcome { IfOk result (λ outcome. outcome ≡ outcome_by list.now inherited.now) }
-    ensures spelt { All IsSpelt list.now }
-{
-    let trimmed = trim_end(trim_front(list.tokens()));
-    match keyword_in(trimmed) {
-        Some(name) if name.is_word("initial") => Ok(Outcome::Invalid),
-        Some(_) => inherited.copy(),
-        None => Ok(Outcome::Tokens(Run::of(alloc, copied(alloc, trimmed)?)?)),
+        Err(SubstErr::Memory) => Err(OutOfMemory),
     }
 }

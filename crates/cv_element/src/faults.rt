@@ -2,8 +2,8 @@
 
 ghost use Rattle.std.specs.Prelude.{◌≡◌, IfOk, map};
 ghost use Rattle.std.specs.List.Sorted.{IsPermutation};
-ghost use Rattle.cv_props.specs.Keys.{key_text};
-ghost use Rattle.cv_element.specs.Element.{IsByName};
+ghost use Rattle.cv_valuation.specs.Keys.{key_text};
+ghost use Rattle.cv_spec_valuation.specs.Computed.{IsByName};
 ghost use Rattle.cv_element.specs.FaultNames.{named, fault_of};
 
 use cv_props::{Cause, Key, key_text};

@@ -1,38 +1,45 @@
-//! The graph of references among the declared names.
+//! The graph of references among the declarations of an element, by their places.
 
-ghost use Rattle.std.specs.Prelude.{◌≡◌, ◌≢◌, ◌↔◌, ◌<◌, ◌≤◌, ◌⊎◌, ℕ, List, [], Contains, length, eqb, IfOk, OnOk, bytes_eq};
+ghost use Rattle.std.specs.Prelude.{◌≡◌, ◌≢◌, ◌↔◌, ◌<◌, ◌≤◌, ℕ, [], length, eqb, bytes_eq, IfOk, OnOk};
 ghost use Rattle.std.specs.List.{IsDistinct};
-ghost use Rattle.cv_graph.specs.Edges.{targets, most_targets, edge_count, HasEdge};
-ghost use Rattle.cv_props.specs.declared.key.Key.TheVariants.{Custom};
-ghost use Rattle.cv_props.specs.Winners.{declaration_of};
-ghost use Rattle.cv_element.specs.Counting.{references_in, reference_count};
-ghost use Rattle.cv_element.specs.Names.{name_at, Connects, IsNumbered, IsReference};
+ghost use Rattle.cv_graph.specs.Edges.{targets, most_targets, HasEdge};
+ghost use Rattle.cv_valuation.specs.declared.key.Key.TheVariants.{Custom};
+ghost use Rattle.cv_element.specs.Counting.{declared_count, references_at};
+ghost use Rattle.cv_element.specs.Places.{Connects, IsFound, IsPlaceOf, RefersAt};
+ghost use Rattle.cv_element.specs.Settling.{key_at};
 
-use crate::names::key_at;
 use cv_graph::Graph;
-use cv_props::Decls;
+use cv_props::{Decls, Key, properties_are_found};
 use cv_spec_text::{Name, OutOfMemory};
-use indexmap::IndexSet;
 use std::alloc::Global;
 
-// An edge to the reference, if it is a declared name.
+// The place of the name, if it is declared.
+fn place_of(decls: &Decls, name: &Name) -> Result<Option<usize>, OutOfMemory>
+    ensures { IfOk result (IsFound decls.now name.now) }
+{
+    let key = Key::Custom(name.copy()?);
+    Ok(decls.index_of(&key))
+}
+
+// An edge to the reference, if it is declared.
 fn connect_one(
     graph: &mut Graph,
     from: u32,
-    names: &IndexSet<Name>,
+    decls: &Decls,
     reference: &Name,
 ) -> Result<(), OutOfMemory>
     requires from { from < length graph.old }
-    requires nodes { length graph.old ≡ length names.now.keys }
-    requires few { length names.now.keys ≤ most_targets }
+    requires nodes { length graph.old ≡ length decls.now }
+    requires few { length decls.now ≤ most_targets }
     requires once { IsDistinct eqb (targets graph.old from) }
-    requires numbers { (to : ℕ) → HasEdge graph.old from to → to < length names.now.keys }
-    requires new { (to : ℕ) → HasEdge graph.old from to → name_at names.now.keys to ≢ reference.now }
-    ensures connects { OnOk result (Connects names.now.keys reference.now (targets graph.old from) (targets graph.new from)) }
+    requires numbers { (to : ℕ) → HasEdge graph.old from to → to < length decls.now }
+    requires new { (to : ℕ) → HasEdge graph.old from to → key_at decls.now to ≢ Custom reference.now }
+    ensures connects { OnOk result (Connects decls.now reference.now (targets graph.old from) (targets graph.new from)) }
     ensures others { OnOk result ((node : ℕ) → node ≢ from → targets graph.new node ≡ targets graph.old node) }
     ensures count { OnOk result (length graph.new ≡ length graph.old) }
 {
-    match names.get_index_of(reference) {
+    let found = place_of(decls, reference)?;
+    match found {
         Some(to) => {
             graph.add_edge(from, to as u32)?;
             Ok(())
@@ -41,74 +48,64 @@ fn connect_one(
     }
 }
 
-// An edge to each of the references that is a declared name.
+// An edge to each of the references that is declared.
 fn connect(
     graph: &mut Graph,
     from: u32,
-    names: &IndexSet<Name>,
+    decls: &Decls,
     references: &[Name],
 ) -> Result<(), OutOfMemory>
     requires from { from < length graph.old }
-    requires nodes { length graph.old ≡ length names.now.keys }
-    requires few { length names.now.keys ≤ most_targets }
+    requires nodes { length graph.old ≡ length decls.now }
+    requires few { length decls.now ≤ most_targets }
     requires none { targets graph.old from ≡ [] }
-    requires once { IsDistinct bytes_eq names.now.keys }
     requires distinct { IsDistinct bytes_eq references.now }
-    ensures edges { OnOk result ((to : ℕ) → HasEdge graph.new from to ↔ IsNumbered names.now.keys references.now to) }
-    ensures bound { OnOk result (length (targets graph.new from) ≤ length references.now) }
+    ensures edges { OnOk result ((to : ℕ) → HasEdge graph.new from to ↔ IsPlaceOf decls.now references.now to) }
+    ensures bound { OnOk result (length (targets graph.new from) ≤ declared_count decls.now references.now) }
+    ensures once { OnOk result (IsDistinct eqb (targets graph.new from)) }
     ensures others { OnOk result ((node : ℕ) → node ≢ from → targets graph.new node ≡ targets graph.old node) }
     ensures count { OnOk result (length graph.new ≡ length graph.old) }
 {
+    properties_are_found();
+    decls.len();
     for place in 0..references.len() {
-        connect_one(graph, from, names, &references[place])?;
+        connect_one(graph, from, decls, &references[place])?;
     }
     Ok(())
 }
 
-// The edges of the declared name with this number.
-fn add_references(
-    decls: &Decls,
-    names: &IndexSet<Name>,
-    number: u32,
-    graph: &mut Graph,
-) -> Result<(), OutOfMemory>
-    requires number { number < length graph.old }
-    requires nodes { length graph.old ≡ length names.now.keys }
-    requires few { length names.now.keys ≤ most_targets }
-    requires none { targets graph.old number ≡ [] }
-    requires once { IsDistinct bytes_eq names.now.keys }
-    ensures edges { OnOk result ((to : ℕ) → HasEdge graph.new number to ↔ IsReference decls.now names.now.keys number to) }
-    ensures bound { OnOk result (length (targets graph.new number) ≤ references_in (declaration_of decls.now (Custom (name_at names.now.keys number)))) }
-    ensures others { OnOk result ((node : ℕ) → node ≢ number → targets graph.new node ≡ targets graph.old node) }
+// The edges of the declaration at this place.
+fn add_references(decls: &Decls, place: u32, graph: &mut Graph) -> Result<(), OutOfMemory>
+    requires place { place < length graph.old }
+    requires nodes { length graph.old ≡ length decls.now }
+    requires few { length decls.now ≤ most_targets }
+    requires none { targets graph.old place ≡ [] }
+    ensures edges { OnOk result ((to : ℕ) → HasEdge graph.new place to ↔ RefersAt decls.now place to) }
+    ensures bound { OnOk result (length (targets graph.new place) ≤ references_at decls.now place) }
+    ensures once { OnOk result (IsDistinct eqb (targets graph.new place)) }
+    ensures others { OnOk result ((node : ℕ) → node ≢ place → targets graph.new node ≡ targets graph.old node) }
     ensures count { OnOk result (length graph.new ≡ length graph.old) }
 {
-    let key = key_at(names, number as usize)?;
-    match decls.get(&key) {
-        Some(declaration) => {
-            let references = declaration.value.references()?;
-            connect(graph, number, names, &references)?;
-            Ok(())
-        }
-        None => Ok(()),
-    }
+    properties_are_found();
+    decls.len();
+    let (_, declaration) = decls.at(place as usize);
+    let references = declaration.value.references()?;
+    connect(graph, place, decls, &references)?;
+    Ok(())
 }
 
-/// The graph whose nodes are the numbers of the declared names, with an edge for each reference of one to another.
-pub fn references(
-    alloc: Global,
-    decls: &Decls,
-    names: &IndexSet<Name>,
-) -> Result<Graph, OutOfMemory>
-    requires few { length names.now.keys ≤ most_targets }
-    requires once { IsDistinct bytes_eq names.now.keys }
-    ensures count { IfOk result (λ graph. length graph ≡ length names.now.keys) }
-    ensures edges { IfOk result (λ graph. (from to : ℕ) → from < length graph → HasEdge graph from to ↔ IsReference decls.now names.now.keys from to) }
-    ensures bound { IfOk result (λ graph. edge_count graph ≤ reference_count decls.now) }
+/// The graph whose nodes are the places of the declarations, with an edge for each reference of one to another.
+pub fn references(alloc: Global, decls: &Decls) -> Result<Graph, OutOfMemory>
+    requires few { length decls.now ≤ most_targets }
+    ensures count { IfOk result (λ graph. length graph ≡ length decls.now) }
+    ensures edges { IfOk result (λ graph. (from to : ℕ) → from < length graph → HasEdge graph from to ↔ RefersAt decls.now from to) }
+    ensures bound { IfOk result (λ graph. (from : ℕ) → from < length graph → length (targets graph from) ≤ references_at decls.now from) }
+    ensures once { IfOk result (λ graph. (from : ℕ) → from < length graph → IsDistinct eqb (targets graph from)) }
 {
-    let count = names.len() as u32;
+    let count = decls.len() as u32;
     let mut graph = Graph::new(alloc, count)?;
-    for number in 0..count {
-        add_references(decls, names, number, &mut graph)?;
+    for place in 0..count {
+        add_references(decls, place, &mut graph)?;
     }
     Ok(graph)
 }

@@ -1,24 +1,28 @@
-//! What is computed of an element is single.
+//! What holds of every element.
 
 ghost use Rattle.std.specs.Prelude.{ℕ, Option};
-ghost use Rattle.cv_props.specs.declared.computed.Computed.{Computed};
-ghost use Rattle.cv_props.specs.Valuations.{Values};
+ghost use Rattle.cv_valuation.specs.Valuations.{Values};
+ghost use Rattle.cv_props.specs.Registered.{Registered, AreEntries};
 ghost use Rattle.cv_props.specs.Winners.{Declarations};
-ghost use Rattle.cv_element.specs.Element.{IsComputed};
-ghost use Rattle.cv_element.specs.Single.{HasOneResult, HoldNoKeyword, ParentHoldsNoKeyword};
+ghost use Rattle.cv_spec_element.specs.Premises.{IsLawful};
+ghost use Rattle.cv_spec_valuation.specs.declared.place.Place.{Place};
+ghost use Rattle.cv_spec_valuation.specs.Computed.{ParentStandsUnder};
+ghost use Rattle.cv_spec_valuation.specs.Element.{the_element};
 
-use cv_props::{Key, outcomes_are_by_key, properties_are_found};
-use cv_spec_element::{loose_element_is_lawful, loose_elements_are_solved};
-use cv_spec_text::Token;
+use cv_calc_laws::font_units_are_told;
+use cv_property_laws::properties_may_be_kept;
+use cv_props::properties_are_found;
+use cv_value_laws::{items_are_free, matches_alike, matches_ignore_contexts, texts_are_split};
 
-/// Something is computed of each element whose parent's values are no CSS-wide keywords, and nothing else is. Its values are
-/// no CSS-wide keywords either, so that the same may be said of its children.
-pub fn elements_have_one_result()
-    ensures one_result { (decls : Declarations) (parent : Option Values) (most : ℕ) → ParentHoldsNoKeyword parent → HasOneResult decls parent most }
-    ensures no_keyword { (decls : Declarations) (parent : Option Values) (most : ℕ) → ParentHoldsNoKeyword parent → (computed : Computed) → IsComputed decls parent most computed → HoldNoKeyword computed.values }
+/// Each element meets the premises of the equations, where its parent's values stand under the registry.
+pub fn elements_are_lawful()
+    ensures { (registered : Registered) (decls : Declarations) (parent : Option Values) (place : Place) (most : ℕ) → AreEntries registered → ParentStandsUnder registered parent → IsLawful (the_element registered decls parent place most) }
 {
-    loose_element_is_lawful::<Key, Token>();
-    loose_elements_are_solved::<Key, Token>();
     properties_are_found();
-    outcomes_are_by_key();
+    properties_may_be_kept();
+    items_are_free();
+    matches_alike();
+    matches_ignore_contexts();
+    texts_are_split();
+    font_units_are_told();
 }

@@ -4,13 +4,19 @@
 mod answers;
 mod faults;
 mod graph;
+mod held;
+mod judging;
+mod keywords;
 mod laws;
-mod names;
 mod planning;
+mod reading;
 mod refusal;
 mod settling;
+mod starting;
 mod valuation;
+mod values;
 
-pub use laws::elements_have_one_result;
+pub use cv_spec_valuation::Place;
+pub use laws::elements_are_lawful;
 pub use refusal::ElemErr;
-pub use valuation::{Place, element};
+pub use valuation::element;

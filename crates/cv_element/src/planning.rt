@@ -1,47 +1,53 @@
 //! The order in which the values of an element are settled.
 
-ghost use Rattle.std.specs.Prelude.{◌≡◌, ◌≤◌, ◌+◌, ℕ, List, Option, length, true, Contains, IfOk};
-ghost use Rattle.cv_spec_text.specs.Keywords.{is_custom};
+ghost use Rattle.std.specs.Prelude.{◌≡◌, ◌≤◌, ◌+◌, ℕ, Option, length, IfOk};
+ghost use Rattle.std.specs.Option.{option_copied};
 ghost use Rattle.cv_graph.specs.Edges.{most_targets};
-ghost use Rattle.cv_props.specs.Valuations.{Values};
-ghost use Rattle.cv_element.specs.Counting.{reference_count};
+ghost use Rattle.cv_spec_valuation.specs.Computed.{ParentStandsUnder};
+ghost use Rattle.cv_spec_valuation.specs.Element.{the_element};
+ghost use Rattle.cv_element.specs.Counting.{edge_most};
 ghost use Rattle.cv_element.specs.Settling.{IsPlan};
 
 use crate::graph::references;
-use crate::names::declared_names;
+use crate::held::add_sizes;
+use crate::laws::elements_are_lawful;
+use cv_calc::Unit;
 use cv_cycle::{Order, ordered};
+use cv_frac::Frac;
 use cv_graph::Steps;
-use cv_props::{Decls, Key};
-use cv_spec_element::loose_elements_are_solved;
-use cv_spec_text::{Name, OutOfMemory, Token};
-use indexmap::IndexSet;
+use cv_props::{Decls, Key, Registry, Valuation, properties_are_found};
+use cv_spec_element::numbers_keep_cycles;
+use cv_spec_text::{OutOfMemory, Token};
+use cv_spec_valuation::Place;
+use cv_value::Typed;
 use std::alloc::Global;
 use std::sync::ledger::Ledger;
 
-/// The declared names, and an order of their numbers.
-#[derive(Drop)]
-pub struct Plan {
-    pub names: IndexSet<Name>,
-    pub order: Order,
-}
-
-/// The declared names, each behind those that it refers to where it is on no cycle. The cycles are searched for once.
+/// The places of the declarations, each behind those that its property depends on or reads, if it is on no cycle. The cycles are searched
+/// for once.
 pub fn planned<L: Ledger>(
     alloc: Global,
+    registry: &Registry,
     decls: &Decls,
+    parent: Option<&Valuation>,
+    at: &Place,
     steps: &mut Steps<L>,
-) -> Result<Plan, OutOfMemory>
+) -> Result<Order, OutOfMemory>
     requires few { length decls.now ≤ most_targets }
-    ensures plan { IfOk result (λ plan. (parent : Option Values) (most : ℕ) → IsPlan decls.now parent most plan.names.keys plan.order.nodes.items plan.order.cyclic.items) }
-    ensures nodes { IfOk result (λ plan. length plan.order.nodes.items ≡ length plan.names.keys) }
-    ensures flags { IfOk result (λ plan. length plan.order.cyclic.items ≡ length plan.names.keys) }
-    ensures custom { IfOk result (λ plan. (name : List ℕ) → Contains plan.names.keys name → is_custom name ≡ true) }
+    requires parent { ParentStandsUnder registry.now (option_copied parent) }
+    ensures plan { IfOk result (λ order. (most : ℕ) → IsPlan (the_element registry.now decls.now (option_copied parent.entry) at.now most) decls.now order.nodes.items order.cyclic.items) }
+    ensures nodes { IfOk result (λ order. length order.nodes.items ≡ length decls.now) }
+    ensures flags { IfOk result (λ order. length order.cyclic.items ≡ length decls.now) }
     ensures counted { steps.old ≤ steps.new }
-    ensures bound { steps.new ≤ steps.old + (reference_count decls.now + length decls.now) }
+    ensures bound { steps.new ≤ steps.old + (edge_most decls.now + length decls.now) }
 {
-    loose_elements_are_solved::<Key, Token>();
-    let names = declared_names(alloc, decls)?;
-    let graph = references(alloc, decls, &names)?;
+    elements_are_lawful();
+    numbers_keep_cycles::<Key, Token, Typed, Unit, Frac>();
+    properties_are_found();
+    registry.len();
+    decls.len();
+    let mut graph = references(alloc, decls)?;
+    add_sizes(alloc, registry, decls, parent, at, &mut graph)?;
     let order = ordered(alloc, &graph, steps)?;
-    Ok(Plan { names, order })
+    Ok(order)
 }

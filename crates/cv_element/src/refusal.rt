@@ -2,11 +2,14 @@
 
 ghost use Rattle.std.specs.Prelude.{◌≡◌};
 
+use cv_props::Key;
 use cv_spec_text::OutOfMemory;
 
 /// Why an element isn't computed.
 #[derive(Debug, Drop)]
 pub enum ElemErr {
+    /// The property isn't invalid, and its value is out of range.
+    Range(Key),
     /// Memory was refused.
     Memory,
 }

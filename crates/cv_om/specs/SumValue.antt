@@ -3,7 +3,7 @@
 -- of the children are formed from the left, and then that of their node; the first refusal counts.
 use Rattle.std.specs.Prelude.{List, [], ◌∷◌, map, fold, Result, Ok, Err, Option, Some, None, if◌then◌else◌}
 use Rattle.std.specs.List.{flat_map}
-use Rattle.cv_spec_ratio.specs.Ratio.{Ratio, add, mul, neg, reciprocal}
+use Rattle.cv_spec_ratio.specs.Ratio.{Ratio, add, mul, neg, reciprocal, one_ratio}
 use Rattle.cv_spec_ratio.specs.Order.{lesser, greater}
 use Rattle.cv_frac.specs.Bounded.{bounded}
 use Rattle.cv_calc.specs.declared.unit.Unit.{Unit}
@@ -57,7 +57,7 @@ abbrev pub times_row : Result Row OmErr → Row → Result Row OmErr
 times_row r ts = and_then r (λ ss. all_of (item_products ss ts))
 
 abbrev pub product_row : List Row → Result Row OmErr
-product_row [] = Ok []
+product_row [] = Ok (item one_ratio [] ∷ [])
 product_row (r ∷ rs) = fold times_row (Ok r) rs
 
 -- ---- a negative

@@ -1,15 +1,17 @@
 //! Products of sum values.
 
-ghost use Rattle.std.specs.Prelude.{◌≡◌, ◌++◌, map, fold, Ok, IfOk, IfErr, OnOk};
+ghost use Rattle.std.specs.Prelude.{◌≡◌, [], ◌∷◌, ◌++◌, map, fold, Ok, IfOk, IfErr, OnOk};
+ghost use Rattle.cv_spec_ratio.specs.Ratio.{one_ratio};
 ghost use Rattle.cv_om.specs.Refusal.{IsRefusal, all_of, answer_map};
-ghost use Rattle.cv_om.specs.SumValue.{item_product, item_products, times_row, product_row};
+ghost use Rattle.cv_om.specs.SumValue.{item as item_of, item_product, item_products, times_row, product_row};
 
 use crate::error::OmErr;
 use crate::item::SumItem;
 use crate::joining::in_range;
 use crate::unit_map::product_powers;
+use cv_frac::Frac;
 use sqlite_items::Items;
-use std::alloc::Global;
+use std::alloc::{AllocError, Global};
 
 /// The product of two items.
 fn item_product(alloc: Global, s: &SumItem, t: &SumItem) -> Result<SumItem, OmErr>
@@ -79,6 +81,19 @@ fn times_all(
     Ok(row)
 }
 
+/// The row of the product of nothing.
+#[tactic(auto, unfolding(cv_spec_ratio::specs::Ratio::one_ratio))]
+fn one_row(alloc: Global) -> Result<Items<SumItem>, AllocError>
+    ensures { IfOk result (λ row. row ≡ item_of one_ratio [] ∷ []) }
+{
+    let mut row = Items::new(alloc);
+    row.push(SumItem {
+        value: Frac::whole(1),
+        units: Items::new(alloc),
+    })?;
+    Ok(row)
+}
+
 /// The row of a product.
 pub(crate) fn product_row(
     alloc: Global,
@@ -88,7 +103,7 @@ pub(crate) fn product_row(
     ensures err { IfErr result (IsRefusal (product_row rows)) }
 {
     if rows.is_empty() {
-        return Ok(Items::new(alloc));
+        return Ok(one_row(alloc)?);
     }
     let first = rows.remove(0);
     times_all(alloc, first, rows.as_slice())

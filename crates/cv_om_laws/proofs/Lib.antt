@@ -1,5 +1,16 @@
+pub mod Collected
+pub mod Converted
 pub mod Joined
+pub mod Kept
+pub mod Maps
+pub mod Owned
+pub mod Positive
+pub mod Raised
+pub mod Rows
 pub mod Scaled
+pub mod SumValues
+pub mod Summed
+pub mod Totals
 pub mod Turned
 pub mod Valued
 pub mod Values

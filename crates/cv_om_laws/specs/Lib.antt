@@ -1,2 +1,3 @@
+pub mod Powers
 pub mod Tables
 pub mod Valued

@@ -3,4 +3,6 @@
 
 mod laws;
 
-pub use laws::{tables_are_whole, values_are_kept};
+pub use laws::{
+    conversions_are_kept, sum_values_are_kept, sums_are_kept, tables_are_whole, values_are_kept,
+};

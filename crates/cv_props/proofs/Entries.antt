@@ -6,10 +6,10 @@ use Rattle.std.specs.Map.{keys_of, remove_entry}
 use Rattle.std.proofs.lemmas.List.Elements.{All-cons, All-head, All-tail}
 use Rattle.indexmap.specs.IndexMap.{insert_entry}
 use Rattle.indexmap.proofs.MapLemmas.{absent_before, absent_from_lookup, insert_entry-absent}
-use Rattle.cv_props.specs.declared.key.Key.{Key}
-use Rattle.cv_props.specs.Keys.{same_key}
-use Rattle.cv_props.specs.KeyLaws.{same_key_equiv}
-use Rattle.cv_props.proofs.KeyOrder.{equal_keys}
+use Rattle.cv_valuation.specs.declared.key.Key.{Key}
+use Rattle.cv_valuation.specs.Keys.{same_key}
+use Rattle.cv_valuation.specs.KeyLaws.{same_key_equiv}
+use Rattle.cv_valuation.proofs.KeyOrder.{equal_keys}
 
 -- where no two keys are equal, the next entry goes last
 pub next_entry : {X : Type 0} (done rest entries : List (Key × X)) (e : Key × X) → IsDistinct same_key (keys_of entries) → done ++ e ∷ rest ≡ entries → insert_entry same_key done e.0 e.1 ++ rest ≡ entries

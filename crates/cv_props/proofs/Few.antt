@@ -7,9 +7,9 @@ use Rattle.cv_spec_text.specs.declared.token.Token.{Token}
 use Rattle.cv_component.specs.declared.items.Piece.{Piece}
 use Rattle.cv_component.specs.Items.{items}
 use Rattle.cv_props.specs.declared.decls.Decl.{Decl}
-use Rattle.cv_props.specs.declared.key.Key.{Key}
+use Rattle.cv_valuation.specs.declared.key.Key.{Key}
 use Rattle.cv_props.specs.declared.note.Why.{Why}
-use Rattle.cv_props.specs.Keys.{same_key}
+use Rattle.cv_valuation.specs.Keys.{same_key}
 use Rattle.cv_props.specs.Kept.{declared_by_item, kept, kept_declarations}
 use Rattle.cv_props.specs.Winners.{Declarations, keys_kept, winners, with_winner}
 use Rattle.cv_props.proofs.Split.{few_items}

@@ -6,13 +6,13 @@ use Rattle.std.specs.Map.{keys_of, lookup}
 use Rattle.std.proofs.lemmas.List.Elements.{filter-append, filter_map-append}
 use Rattle.indexmap.specs.IndexMap.{insert_entry}
 use Rattle.cv_props.specs.declared.decls.Decl.{Decl}
-use Rattle.cv_props.specs.declared.key.Key.{Key}
-use Rattle.cv_props.specs.Keys.{same_key}
-use Rattle.cv_props.specs.KeyLaws.{same_key_equiv}
+use Rattle.cv_valuation.specs.declared.key.Key.{Key}
+use Rattle.cv_valuation.specs.Keys.{same_key}
+use Rattle.cv_valuation.specs.KeyLaws.{same_key_equiv}
 use Rattle.cv_props.specs.Winners.{Declarations, declaration_of, is_of, is_important_of, first_or, last_such, winner, keys_kept, winners}
 use Rattle.cv_props.specs.WinnerLaws.{WinnersAreByKey}
 use Rattle.cv_props.specs.Declaring.{is_important, with_declaration}
-use Rattle.cv_props.proofs.KeyOrder.{equal_keys}
+use Rattle.cv_valuation.proofs.KeyOrder.{equal_keys}
 
 same_itself : (key : Key) → same_key key key ≡ true
 same_itself key = same_key_equiv.refl key

@@ -1,10 +1,12 @@
-mod TableTest
-pub mod KeyOrder
-mod Outcomes
-mod Tries
 mod Entries
 mod Keeping
 mod Numbered
 mod Items
 mod Split
+mod Said
+mod Naming
+mod Places
+mod Registering
+mod Syntaxes
+mod Universal
 mod Few

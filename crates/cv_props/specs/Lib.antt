@@ -1,12 +1,8 @@
-pub mod Keys
-pub mod KeyLaws
-pub mod TableLaws
-pub mod Valuations
-pub mod Tries
-pub mod ValuationLaws
 pub mod Winners
 pub mod WinnerLaws
-pub mod Declaring
+pub mod Registered
+pub mod Registration
 pub mod Kept
+pub mod Declaring
 pub mod Reading
 pub mod Sheets

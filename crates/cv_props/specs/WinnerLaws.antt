@@ -1,7 +1,7 @@
 -- What the winning declarations are, key by key.
 use Rattle.std.specs.Prelude.{◌≡◌}
 use Rattle.std.specs.Map.{keys_of}
-use Rattle.cv_props.specs.declared.key.Key.{Key}
+use Rattle.cv_valuation.specs.declared.key.Key.{Key}
 use Rattle.cv_props.specs.Winners.{Declarations, declaration_of, winner, keys_kept, winners}
 
 -- Each kept key stands once, at the place at which it was first kept, with its winning declaration.

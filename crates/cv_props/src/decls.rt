@@ -1,15 +1,15 @@
 //! The declarations of an element.
 
-ghost use Rattle.std.specs.Prelude.{◌≡◌, ◌<◌, [], length, slice_get, is_some, Some, All, IfOk, OnOk, OnErr};
+ghost use Rattle.std.specs.Prelude.{◌≡◌, ◌<◌, ℕ, [], length, slice_get, is_some, Some, All, IfOk, IfSome, OnOk, OnErr, position};
 ghost use Rattle.std.specs.List.{IsDistinct};
 ghost use Rattle.std.specs.Option.{option_copied};
 ghost use Rattle.std.specs.Map.{keys_of, remove_entry};
 ghost use Rattle.indexmap.specs.IndexMap.{insert_entry};
-ghost use Rattle.cv_props.specs.Keys.{same_key};
+ghost use Rattle.cv_valuation.specs.Keys.{same_key};
 ghost use Rattle.cv_props.specs.Winners.{declaration_of};
-ghost use Rattle.cv_props.specs.Declaring.{IsDeclaredEntry, MayDeclare, is_important, with_declaration};
+ghost use Rattle.cv_props.specs.Declaring.{IsDeclaredEntry, IsPlaceOf, MayDeclare, is_important, with_declaration};
 
-use crate::key::Key;
+use cv_valuation::Key;
 use cv_var::Declared;
 use indexmap::IndexMap;
 use std::alloc::{AllocError, Global};
@@ -68,6 +68,15 @@ impl Decls {
         ensures { option_copied result ≡ declaration_of self.now key.now }
     {
         self.declarations.get(key)
+    }
+
+    /// The place of the key, if it has a declaration.
+    pub fn index_of(&self, key: &Key) -> Option<usize>
+        ensures place { result ≡ position (same_key key.now) (keys_of self.now) }
+        ensures only_where { IfSome result (λ place. IsPlaceOf self.now key.now place) }
+        ensures exactly_where { (place : ℕ) → IsPlaceOf self.now key.now place → result ≡ Some place }
+    {
+        self.declarations.get_index_of(key)
     }
 
     /// How many keys there are.

@@ -1,22 +1,23 @@
-//! Properties and the keys, declarations and values that belong to them.
+//! What a sheet registers, and the kept and winning declarations of a style.
 #![tactic(auto)]
 
-mod computed;
 mod decls;
-mod key;
+mod descriptors;
+mod entry;
+mod initial;
 mod laws;
 mod note;
-mod outcome;
+mod refusal;
+mod registration;
 mod registry;
 mod style;
-mod trie;
 
-pub use computed::{Cause, Computed};
-pub use cv_property::Property;
+pub use cv_valuation::{
+    Cause, Computed, Key, Outcome, Property, Valuation, key_text, outcome_text,
+    outcomes_are_by_key, properties_are_found,
+};
 pub use decls::{Decl, Decls};
-pub use key::{Key, key_text};
-pub use laws::{outcomes_are_by_key, properties_are_found, winners_are_by_key};
+pub use entry::Entry;
+pub use laws::winners_are_by_key;
 pub use note::{Note, NotePlace, Why};
-pub use outcome::{Outcome, Valuation, outcome_text};
-pub use registry::{Registry, registers};
-pub use style::declares_ordinary;
+pub use registry::Registry;

@@ -1,49 +1,109 @@
 //! The custom properties that a sheet registers.
 
-ghost use Rattle.std.specs.Prelude.{◌≡◌, ◌<◌, [], length, All, IfOk};
+ghost use Rattle.std.specs.Prelude.{◌≡◌, ◌++◌, ◌<◌, ℕ, List, length, slice_get, bytes_eq, Some, All, IfOk, IfSome, OnOk};
+ghost use Rattle.std.specs.List.{IsDistinct};
+ghost use Rattle.std.specs.Map.{keys_of};
+ghost use Rattle.std.specs.Option.{option_copied};
+ghost use Rattle.indexmap.specs.IndexMap.{insert_entry};
 ghost use Rattle.cv_spec_text.specs.Splits.{IsSpelt};
 ghost use Rattle.cv_component.specs.Rules.{rules};
-ghost use Rattle.cv_props.specs.Sheets.{RegisterNothing, notes_on_rules, register, registers};
+ghost use Rattle.cv_props.specs.Reading.{IsSpeltRule};
+ghost use Rattle.cv_props.specs.Registered.{AreEntries, IsEntry, IsRegistered, entry_of};
+ghost use Rattle.cv_valuation.specs.declared.key.Key as keys;
+ghost use Rattle.cv_valuation.specs.Starts.{table_initial};
+ghost use Rattle.cv_valuation.specs.Valuations.{outcome_at};
+ghost use Rattle.cv_props.specs.Registration.{registration, viewport};
+ghost use Rattle.cv_props.specs.Sheets.{ignored, notes_on_rules, registered, registered_names, registry_of, with_registration};
 
-use crate::note::{Note, NotePlace, Why};
+use crate::entry::Entry;
+use crate::note::{Note, NotePlace};
+use crate::refusal::Refusal;
+use crate::registration::{read_rule, viewport};
+use cv_calc::Context;
 use cv_component::{Rule, rules};
 use cv_spec_text::{Name, Token};
+use cv_valuation::Valuation;
+use indexmap::IndexMap;
 use std::alloc::{AllocError, Global};
 use std::marker::Model;
 
-/// The registered custom properties. Contracts see the list of their names.
+/// The registered custom properties, in the order in which their names were first registered (Properties and Values API 1, "The
+/// @property Rule"), beside the initial values of the ordinary ones. Contracts see the list of names and entries, in which each name
+/// stands once.
 #[derive(Drop)]
 pub struct Registry {
-    names: Vec<Name>,
+    entries: IndexMap<Name, Entry>,
+    table: Valuation,
 }
 
 impl Model for Registry {
-    ghost use Rattle.std.specs.Prelude.{List, ℕ};
+    ghost use Rattle.std.specs.Prelude.{All};
+    ghost use Rattle.cv_props.specs.Registered.{IsRegistered, IsTable, Registered};
 
-    ghost Value = { List (List ℕ) };
+    ghost Value = { Registered };
 
-    ghost view = { λ registry. registry.names.items };
+    ghost use Rattle.std.specs.Coded.{coded_list, coded×, coded_ℕ};
+    ghost use Rattle.cv_props.specs.contracts.entry.Entry as of_entry;
+
+    ghost coded = { coded_list (coded× (coded_list coded_ℕ) of_entry.the_row.coded) };
+
+    ghost view = { λ registry. registry.entries.entries };
+
+    ghost invariant = { λ registry. All IsRegistered registry.entries.entries × IsTable registry.table };
 }
 
 impl Registry {
-    /// What the sheet registers, and a note on each rule that is ignored, in order. No rule may be an `@property` rule, so
-    /// nothing is registered, and each rule is skipped.
+    /// What the sheet registers in a viewport of this size in px, and a note on each rule that is ignored, in order. The last valid rule
+    /// of a name counts.
     pub fn of_sheet(
         alloc: Global,
         tokens: &[Token],
-        _width: u32,
-        _height: u32,
+        width: u32,
+        height: u32,
     ) -> Result<(Registry, Vec<Note>), AllocError>
         requires spelt { All IsSpelt tokens.now }
         requires few { length tokens.now < 4294967288 }
-        requires built { RegisterNothing (rules tokens.now) }
-        ensures registry { IfOk result (λ sheet. sheet.0 ≡ []) }
-        ensures notes { IfOk result (λ sheet. sheet.1.items ≡ notes_on_rules (rules tokens.now)) }
+        ensures entries { IfOk result (λ sheet. (name : List ℕ) → entry_of sheet.0 name ≡ registered (viewport width height) (rules tokens.now) name) }
+        ensures order { IfOk result (λ sheet. keys_of sheet.0 ≡ registered_names (viewport width height) (rules tokens.now)) }
+        ensures registry { IfOk result (λ sheet. sheet.0 ≡ registry_of (viewport width height) (rules tokens.now)) }
+        ensures notes { IfOk result (λ sheet. sheet.1.items ≡ notes_on_rules (viewport width height) (rules tokens.now)) }
+        ensures valid { IfOk result (λ sheet. AreEntries sheet.0) }
     {
         let all = rules(alloc, tokens)?;
-        let notes = skipped(alloc, &all)?;
-        let names = Vec::new(alloc);
-        Ok((Registry { names }, notes))
+        of_rules(alloc, &viewport(width, height), &all)
+    }
+
+    /// What is registered of the name, if it is registered.
+    pub fn get(&self, name: &Name) -> Option<&Entry>
+        ensures entry { option_copied result ≡ entry_of self.now name.now }
+        ensures kept { IfSome result (λ entry. IsEntry name.now entry.now) }
+    {
+        self.entries.get(name)
+    }
+
+    /// How many names are registered.
+    pub fn len(&self) -> usize
+        ensures len { result ≡ length self.now }
+        ensures once { IsDistinct bytes_eq (keys_of self.now) }
+        ensures entries { AreEntries self.now }
+    {
+        self.entries.len()
+    }
+
+    /// The name and the entry at this place.
+    pub fn at(&self, place: usize) -> (&Name, &Entry)
+        requires { place < length self.now }
+        ensures entry { slice_get self.now place ≡ Some (result.0.now, result.1.now) }
+        ensures kept { IsEntry result.0.now result.1.now }
+    {
+        self.entries.get_index(place).unwrap()
+    }
+
+    /// The initial value of each ordinary property; each custom one is invalid.
+    pub fn table(&self) -> &Valuation
+        ensures { (key : keys.Key) → outcome_at result.now key ≡ table_initial key }
+    {
+        &self.table
     }
 
     /// The same registry again.
@@ -51,48 +111,73 @@ impl Registry {
         ensures { IfOk result (λ registry. registry ≡ self.now) }
     {
         Ok(Registry {
-            names: copied(&self.names)?,
+            entries: copied(&self.entries)?,
+            table: self.table.copy()?,
         })
     }
 }
 
-/// Whether a rule of the sheet is an `@property` rule, which `Registry::of_sheet` can't take yet.
-pub fn registers(alloc: Global, tokens: &[Token]) -> Result<bool, AllocError>
-    ensures { IfOk result (λ found. found ≡ register (rules tokens.now)) }
+fn copied(entries: &IndexMap<Name, Entry>) -> Result<IndexMap<Name, Entry>, AllocError>
+    ensures { IfOk result (λ all. all.entries ≡ entries.now.entries) }
 {
-    let all = rules(alloc, tokens)?;
-    Ok(all.iter().any(is_registration))
-}
-
-fn is_registration(rule: &Rule) -> bool
-    ensures { result ≡ registers rule.now }
-{
-    match rule {
-        Rule::At { name, .. } => name.is_word("property"),
-        Rule::Other => false,
-    }
-}
-
-fn copied(names: &Vec<Name>) -> Result<Vec<Name>, AllocError>
-    ensures { IfOk result (λ all. all.items ≡ names.now.items) }
-{
-    let mut all = Vec::new(*names.allocator());
-    for name in names {
-        all.push(name.copy()?)?;
+    let mut all = IndexMap::new(*entries.allocator());
+    for (name, entry) in entries.iter() {
+        add_copy(&mut all, name, entry)?;
     }
     Ok(all)
 }
 
-fn skipped(alloc: Global, all: &[Rule]) -> Result<Vec<Note>, AllocError>
-    requires { length all.now < 4294967288 }
-    ensures { IfOk result (λ notes. notes.items ≡ notes_on_rules all.now) }
+fn add_copy(all: &mut IndexMap<Name, Entry>, name: &Name, entry: &Entry) -> Result<(), AllocError>
+    ensures { OnOk result (all.new.entries ≡ insert_entry bytes_eq all.old.entries name.now entry.now) }
 {
+    let alloc = *all.allocator();
+    all.insert(name.copy()?, entry.copy(alloc)?)?;
+    Ok(())
+}
+
+// What the rules register, and a note on each that is ignored.
+fn of_rules(alloc: Global, x: &Context, all: &[Rule]) -> Result<(Registry, Vec<Note>), AllocError>
+    requires spelt { All IsSpeltRule all.now }
+    requires few { length all.now < 4294967288 }
+    ensures entries { IfOk result (λ sheet. (name : List ℕ) → entry_of sheet.0 name ≡ registered x.now all.now name) }
+    ensures order { IfOk result (λ sheet. keys_of sheet.0 ≡ registered_names x.now all.now) }
+    ensures registry { IfOk result (λ sheet. sheet.0 ≡ registry_of x.now all.now) }
+    ensures notes { IfOk result (λ sheet. sheet.1.items ≡ notes_on_rules x.now all.now) }
+    ensures valid { IfOk result (λ sheet. AreEntries sheet.0) }
+{
+    let mut entries = IndexMap::new(alloc);
     let mut notes = Vec::new(alloc);
-    for (number, _) in all.iter().enumerate() {
-        notes.push(Note {
-            place: NotePlace::Rule(number as u32),
-            why: Why::Skipped,
-        })?;
+    for (number, rule) in all.iter().enumerate() {
+        add_rule(alloc, x, number as u32, rule, &mut entries, &mut notes)?;
     }
-    Ok(notes)
+    let table = Valuation::initial(alloc)?;
+    Ok((Registry { entries, table }, notes))
+}
+
+// Keeps what the rule registers, or notes why it is ignored.
+fn add_rule(
+    alloc: Global,
+    x: &Context,
+    number: u32,
+    rule: &Rule,
+    entries: &mut IndexMap<Name, Entry>,
+    notes: &mut Vec<Note>,
+) -> Result<(), AllocError>
+    requires { IsSpeltRule rule.now }
+    ensures entries { OnOk result (entries.new.entries ≡ with_registration entries.old.entries (registration x.now rule.now)) }
+    ensures kept { All IsRegistered entries.old.entries → OnOk result (All IsRegistered entries.new.entries) }
+    ensures notes { OnOk result (notes.new.items ≡ notes.old.items ++ ignored number (registration x.now rule.now)) }
+{
+    match read_rule(alloc, x, rule) {
+        Ok((name, entry)) => {
+            entries.insert(name, entry)?;
+            Ok(())
+        }
+        Err(Refusal::Ignored(why)) => {
+            let place = NotePlace::Rule(number);
+            notes.push(Note { place, why })?;
+            Ok(())
+        }
+        Err(Refusal::Memory) => Err(AllocError),
+    }
 }

@@ -2,17 +2,17 @@
 use Rattle.std.specs.Prelude.{ℕ, List, [], ◌∷◌, ◌++◌, codes, decimal, find, Option, Some, None, option_map}
 use Rattle.std.specs.List.{flat_map, enumerate_from}
 use Rattle.cv_spec_text.specs.Characters.{line_feed, space}
-use Rattle.cv_props.specs.declared.computed.Cause.{Cause}
-use Rattle.cv_props.specs.declared.computed.Cause.TheVariants.{Cycle, Missing, Limit}
-use Rattle.cv_props.specs.declared.computed.Computed.{Computed}
-use Rattle.cv_props.specs.declared.key.Key.{Key}
+use Rattle.cv_valuation.specs.declared.computed.Cause.{Cause}
+use Rattle.cv_valuation.specs.declared.computed.Cause.TheVariants.{Cycle, Missing, Limit, Mismatch}
+use Rattle.cv_valuation.specs.declared.computed.Computed.{Computed}
+use Rattle.cv_valuation.specs.declared.key.Key.{Key}
 use Rattle.cv_props.specs.declared.note.Note.{Note}
 use Rattle.cv_props.specs.declared.note.NotePlace.{NotePlace}
 use Rattle.cv_props.specs.declared.note.NotePlace.TheVariants.{Rule, Item}
 use Rattle.cv_props.specs.declared.note.Why.{Why}
 use Rattle.cv_props.specs.declared.note.Why.TheVariants.{Skipped, RuleName, RuleBlock, RuleSyntax, RuleInherits, RuleInitial, AtRule, NotDeclaration, UnknownProperty, TooDeep, BadValue, BadVar}
-use Rattle.cv_props.specs.Keys.{key_text, same_key}
-use Rattle.cv_props.specs.Valuations.{outcome_at, outcome_text}
+use Rattle.cv_valuation.specs.Keys.{key_text, same_key}
+use Rattle.cv_valuation.specs.Valuations.{outcome_at, outcome_text}
 
 -- why a rule or an item is ignored
 abbrev pub why_text : Why → List ℕ
@@ -45,6 +45,7 @@ abbrev pub cause_text : Cause → List ℕ
 cause_text Cycle = codes "cycle"
 cause_text (Missing name) = codes "missing"
 cause_text (Limit tokens) = codes "limit"
+cause_text Mismatch = codes "mismatch"
 
 -- an element and a key: `0 --a `
 abbrev pub subject : ℕ → Key → List ℕ

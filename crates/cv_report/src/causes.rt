@@ -2,7 +2,7 @@
 
 ghost use Rattle.std.specs.Prelude.{◌≡◌, [], ◌∷◌, ◌++◌, IfOk, OnOk};
 ghost use Rattle.std.specs.Option.{option_copied};
-ghost use Rattle.cv_props.specs.declared.key.Key as keys;
+ghost use Rattle.cv_valuation.specs.declared.key.Key as keys;
 ghost use Rattle.cv_report.specs.Report.{cause_of};
 
 use cv_props::{Cause, Key};
@@ -18,8 +18,8 @@ pub struct Causes {
 
 impl Model for Causes {
     ghost use Rattle.std.specs.Prelude.{List};
-    ghost use Rattle.cv_props.specs.declared.computed.Cause.{Cause};
-    ghost use Rattle.cv_props.specs.declared.key.Key.{Key};
+    ghost use Rattle.cv_valuation.specs.declared.computed.Cause.{Cause};
+    ghost use Rattle.cv_valuation.specs.declared.key.Key.{Key};
 
     ghost Value = { List (Key × Cause) };
 

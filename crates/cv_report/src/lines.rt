@@ -55,16 +55,16 @@ fn push_place(text: &mut Vec<u8>, place: NotePlace) -> Result<(), AllocError>
     }
 }
 
-/// The line of a note.
-pub fn text_of_note(alloc: Global, note: Note) -> Result<Vec<u8>, AllocError>
-    ensures { IfOk result (λ text. text.items ≡ note_line note) }
+/// Adds the line of a note. At want of memory it may have been begun.
+pub fn push_note(text: &mut Vec<u8>, note: Note) -> Result<(), AllocError>
+    ensures { OnOk result (text.new.items ≡ text.old.items ++ note_line note) }
 {
-    let mut text = Vec::from_slice(alloc, b"# ")?;
-    push_place(&mut text, note.place)?;
+    text.extend_from_slice(b"# ")?;
+    push_place(text, note.place)?;
     text.extend_from_slice(b": ")?;
     text.extend_from_slice(why_text(note.why).as_bytes())?;
     text.push(b'\n')?;
-    Ok(text)
+    Ok(())
 }
 
 /// Adds the line of a note, as `# sheet rule 0: skipped`.
@@ -72,35 +72,41 @@ pub fn note_line(alloc: Global, note: &Note, out: &mut Vec<u8>) -> Result<(), Al
     ensures ok { OnOk result (out.new.items ≡ out.old.items ++ note_line note.now) }
     ensures err { OnErr result (out.new.items ≡ out.old.items) }
 {
-    let text = text_of_note(alloc, *note)?;
+    let mut text = Vec::new(alloc);
+    push_note(&mut text, *note)?;
     out.extend_from_slice(&text)
 }
 
-// The number of an element and the name of a key, each with a space behind it.
-fn subject(alloc: Global, element: u32, key: &Key) -> Result<Vec<u8>, AllocError>
-    ensures { IfOk result (λ text. text.items ≡ subject element key.now) }
+// Adds the number of an element and the name of a key, each with a space behind it.
+fn push_subject(
+    alloc: Global,
+    text: &mut Vec<u8>,
+    element: u32,
+    key: &Key,
+) -> Result<(), AllocError>
+    ensures { OnOk result (text.new.items ≡ text.old.items ++ subject element key.now) }
 {
-    let mut text = Vec::new(alloc);
-    push_number(&mut text, element)?;
+    push_number(text, element)?;
     text.push(b' ')?;
-    key_text(alloc, key, &mut text)?;
+    key_text(alloc, key, text)?;
     text.push(b' ')?;
-    Ok(text)
+    Ok(())
 }
 
-/// The line of a key's outcome.
-pub fn text_of_outcome(
+/// Adds the line of a key's outcome. At want of memory it may have been begun.
+pub fn push_outcome(
     alloc: Global,
+    text: &mut Vec<u8>,
     element: u32,
     key: &Key,
     computed: &Computed,
-) -> Result<Vec<u8>, AllocError>
-    ensures { IfOk result (λ text. text.items ≡ outcome_line element key.now computed.now) }
+) -> Result<(), AllocError>
+    ensures { OnOk result (text.new.items ≡ text.old.items ++ outcome_line element key.now computed.now) }
 {
-    let mut text = subject(alloc, element, key)?;
-    outcome_text(alloc, computed.values.get(key), &mut text)?;
+    push_subject(alloc, text, element, key)?;
+    outcome_text(alloc, computed.values.get(key), text)?;
     text.push(b'\n')?;
-    Ok(text)
+    Ok(())
 }
 
 // The cause for which a key is bad, if it is.
@@ -120,23 +126,25 @@ fn cause_text(cause: &Cause) -> &'static str
         Cause::Cycle => "cycle",
         Cause::Missing(_) => "missing",
         Cause::Limit(_) => "limit",
+        Cause::Mismatch => "mismatch",
     }
 }
 
-/// The line of a cause.
-pub fn text_of_cause(
+/// Adds the line of a cause. At want of memory it may have been begun.
+pub fn push_cause(
     alloc: Global,
+    text: &mut Vec<u8>,
     element: u32,
     key: &Key,
     cause: &Cause,
-) -> Result<Vec<u8>, AllocError>
-    ensures { IfOk result (λ text. text.items ≡ cause_line element key.now cause.now) }
+) -> Result<(), AllocError>
+    ensures { OnOk result (text.new.items ≡ text.old.items ++ cause_line element key.now cause.now) }
 {
-    let mut text = subject(alloc, element, key)?;
+    push_subject(alloc, text, element, key)?;
     text.extend_from_slice(b"! ")?;
     text.extend_from_slice(cause_text(cause).as_bytes())?;
     text.push(b'\n')?;
-    Ok(text)
+    Ok(())
 }
 
 fn text_of_values(
@@ -147,10 +155,10 @@ fn text_of_values(
 ) -> Result<Vec<u8>, AllocError>
     ensures { IfOk result (λ text. text.items ≡ value_lines element key.now computed.now) }
 {
-    let mut text = text_of_outcome(alloc, element, key, computed)?;
+    let mut text = Vec::new(alloc);
+    push_outcome(alloc, &mut text, element, key, computed)?;
     if let Some(cause) = cause_of(key, computed.faults.as_slice()) {
-        let line = text_of_cause(alloc, element, key, cause)?;
-        text.extend_from_slice(&line)?;
+        push_cause(alloc, &mut text, element, key, cause)?;
     }
     Ok(text)
 }

@@ -5,11 +5,11 @@ ghost use Rattle.std.specs.Option.{option_copied};
 ghost use Rattle.std.specs.Io.KnownBytes.{Appends};
 ghost use Rattle.cv_io.specs.Causes.{HasSinkCause};
 ghost use Rattle.cv_io.specs.Streams.{TookPrefix};
-ghost use Rattle.cv_report.specs.Report.{cause_lines, element_text, elements_text, note_line, notes_text, outcome_line, report_text};
+ghost use Rattle.cv_report.specs.Report.{cause_line, cause_lines, element_text, elements_text, note_line, notes_text, outcome_line, report_text};
 ghost use Rattle.cv_report.specs.Written.{TookText};
 
 use crate::causes::Causes;
-use crate::lines::{text_of_cause, text_of_note, text_of_outcome};
+use crate::lines::{push_cause, push_note, push_outcome};
 use cv_io::{Sink, SinkErr, put};
 use cv_props::{Cause, Computed, Key, Note};
 use std::alloc::Global;
@@ -32,19 +32,21 @@ pub fn report<O: Sink>(
     ensures part { OnErr result (TookPrefix (O.taken out.old) (O.taken out.new) (report_text notes.now shown.now all.now)) }
     ensures cause { HasSinkCause (O.faults out.old) (O.faults out.new) result }
 {
-    match write_notes(alloc, notes, out) {
+    let mut line = Vec::new(alloc);
+    match write_notes(&mut line, notes, out) {
         Ok(()) => {}
         Err(error) => return Err(error),
     }
-    write_elements(alloc, shown, all, out)
+    write_elements(alloc, &mut line, shown, all, out)
 }
 
-fn write_notes<O: Sink>(alloc: Global, notes: &[Note], out: &mut O) -> Result<(), SinkErr>
+// Writes the notes. Each line is made in the same buffer, here and below.
+fn write_notes<O: Sink>(line: &mut Vec<u8>, notes: &[Note], out: &mut O) -> Result<(), SinkErr>
     ensures taken { TookText (O.taken out.old) (O.taken out.new) (notes_text notes.now) result }
     ensures cause { HasSinkCause (O.faults out.old) (O.faults out.new) result }
 {
     for note in notes {
-        match write_note(alloc, *note, out) {
+        match write_note(line, *note, out) {
             Ok(()) => {}
             Err(error) => return Err(error),
         }
@@ -52,16 +54,18 @@ fn write_notes<O: Sink>(alloc: Global, notes: &[Note], out: &mut O) -> Result<()
     Ok(())
 }
 
-fn write_note<O: Sink>(alloc: Global, note: Note, out: &mut O) -> Result<(), SinkErr>
+fn write_note<O: Sink>(line: &mut Vec<u8>, note: Note, out: &mut O) -> Result<(), SinkErr>
     ensures taken { TookText (O.taken out.old) (O.taken out.new) (note_line note) result }
     ensures cause { HasSinkCause (O.faults out.old) (O.faults out.new) result }
 {
-    let line = text_of_note(alloc, note)?;
-    put(out, &line)
+    line.clear();
+    push_note(line, note)?;
+    put(out, line)
 }
 
 fn write_elements<O: Sink>(
     alloc: Global,
+    line: &mut Vec<u8>,
     shown: &[Key],
     all: &[Computed],
     out: &mut O,
@@ -71,7 +75,7 @@ fn write_elements<O: Sink>(
     ensures cause { HasSinkCause (O.faults out.old) (O.faults out.new) result }
 {
     for (element, computed) in all.iter().enumerate() {
-        match write_element(alloc, element as u32, shown, computed, out) {
+        match write_element(alloc, line, element as u32, shown, computed, out) {
             Ok(()) => {}
             Err(error) => return Err(error),
         }
@@ -81,6 +85,7 @@ fn write_elements<O: Sink>(
 
 fn write_element<O: Sink>(
     alloc: Global,
+    line: &mut Vec<u8>,
     element: u32,
     shown: &[Key],
     computed: &Computed,
@@ -91,7 +96,7 @@ fn write_element<O: Sink>(
 {
     let causes = Causes::of(alloc, computed.faults.as_slice())?;
     for key in shown {
-        match write_values(alloc, element, key, computed, causes.get(key), out) {
+        match write_values(alloc, line, element, key, computed, causes.get(key), out) {
             Ok(()) => {}
             Err(error) => return Err(error),
         }
@@ -102,6 +107,7 @@ fn write_element<O: Sink>(
 // The lines of a key on an element.
 fn write_values<O: Sink>(
     alloc: Global,
+    line: &mut Vec<u8>,
     element: u32,
     key: &Key,
     computed: &Computed,
@@ -111,15 +117,16 @@ fn write_values<O: Sink>(
     ensures taken { TookText (O.taken out.old) (O.taken out.new) (outcome_line element key.now computed.now ++ cause_lines element key.now (option_copied cause.entry)) result }
     ensures cause { HasSinkCause (O.faults out.old) (O.faults out.new) result }
 {
-    match write_outcome(alloc, element, key, computed, out) {
+    match write_outcome(alloc, line, element, key, computed, out) {
         Ok(()) => {}
         Err(error) => return Err(error),
     }
-    write_cause(alloc, element, key, cause, out)
+    write_cause(alloc, line, element, key, cause, out)
 }
 
 fn write_outcome<O: Sink>(
     alloc: Global,
+    line: &mut Vec<u8>,
     element: u32,
     key: &Key,
     computed: &Computed,
@@ -128,12 +135,14 @@ fn write_outcome<O: Sink>(
     ensures taken { TookText (O.taken out.old) (O.taken out.new) (outcome_line element key.now computed.now) result }
     ensures cause { HasSinkCause (O.faults out.old) (O.faults out.new) result }
 {
-    let line = text_of_outcome(alloc, element, key, computed)?;
-    put(out, &line)
+    line.clear();
+    push_outcome(alloc, line, element, key, computed)?;
+    put(out, line)
 }
 
 fn write_cause<O: Sink>(
     alloc: Global,
+    line: &mut Vec<u8>,
     element: u32,
     key: &Key,
     cause: Option<&Cause>,
@@ -143,10 +152,23 @@ fn write_cause<O: Sink>(
     ensures cause { HasSinkCause (O.faults out.old) (O.faults out.new) result }
 {
     match cause {
-        Some(cause) => {
-            let line = text_of_cause(alloc, element, key, cause)?;
-            put(out, &line)
-        }
+        Some(cause) => write_one_cause(alloc, line, element, key, cause, out),
         None => Ok(()),
     }
+}
+
+fn write_one_cause<O: Sink>(
+    alloc: Global,
+    line: &mut Vec<u8>,
+    element: u32,
+    key: &Key,
+    cause: &Cause,
+    out: &mut O,
+) -> Result<(), SinkErr>
+    ensures taken { TookText (O.taken out.old) (O.taken out.new) (cause_line element key.now cause.now) result }
+    ensures cause { HasSinkCause (O.faults out.old) (O.faults out.new) result }
+{
+    line.clear();
+    push_cause(alloc, line, element, key, cause)?;
+    put(out, line)
 }

@@ -142,3 +142,56 @@ fn a_fault_of_the_error_stream_changes_no_status(rt: HostRuntime) -> Result<(), 
     assert!(rt; done && refused);
     Ok(())
 }
+
+const REPORT: &str = "0 --a = 1px\n";
+
+// A run that reads ten bytes and writes one at a time: its number, and what was written.
+fn ended(alloc: Global, reads: Vec<u64>, writes: Vec<u64>) -> Result<(u8, Vec<u8>), AllocError> {
+    let words = vec![in alloc; String::from_str(alloc, "compute")?]?;
+    let mut src = MemSource::new(DOCUMENT.as_bytes().to_vec(alloc)?, 10, reads);
+    let mut out = MemSink::new(alloc, 1, writes);
+    let mut err = SureSink::new(alloc);
+    let code = run(alloc, &words, &mut src, &mut out, &mut err).code();
+    Ok((code, out.taken().to_vec(alloc)?))
+}
+
+// Whether a failing read ended the run with nothing written.
+fn is_read_fault(code: u8, taken: &[u8]) -> bool {
+    code == 3 && taken.is_empty()
+}
+
+// Whether a failing write ended the run with a front of the report written.
+fn is_write_fault(code: u8, taken: &[u8]) -> bool {
+    code == 7 && REPORT.as_bytes().starts_with(taken)
+}
+
+// The number of the first read, or write, that a run doesn't make, where each before it ends a run as it should when it fails.
+fn calls(alloc: Global, of_reads: bool) -> Result<Option<u64>, AllocError> {
+    for call in 0..100u64 {
+        let failing = vec![in alloc; call]?;
+        let (code, taken) = if of_reads {
+            ended(alloc, failing, Vec::new(alloc))?
+        } else {
+            ended(alloc, Vec::new(alloc), failing)?
+        };
+        if code == 0 && taken.as_slice() == REPORT.as_bytes() {
+            return Ok(Some(call));
+        }
+        let is_fault = if of_reads {
+            is_read_fault(code, &taken)
+        } else {
+            is_write_fault(code, &taken)
+        };
+        if !is_fault {
+            return Ok(None);
+        }
+    }
+    Ok(None)
+}
+
+#[test]
+fn each_read_and_each_write_fails(rt: HostRuntime) -> Result<(), Fail> {
+    assert_eq!(rt; calls(rt.alloc(), true)?, Some(7));
+    assert_eq!(rt; calls(rt.alloc(), false)?, Some(12));
+    Ok(())
+}

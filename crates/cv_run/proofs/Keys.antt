@@ -1,12 +1,12 @@
 -- Keys are compared exactly.
 use Rattle.std.proofs.Common.{◌≡◌, true, Some, refl, sym, ◌∙◌, ap}
 use Rattle.std.proofs.lemmas.Slice.Eq.{bytes_eq-Decides}
-use Rattle.cv_props.specs.declared.key.Key.{Key}
-use Rattle.cv_props.specs.declared.key.Key.TheVariants.{Custom, Table}
-use Rattle.cv_props.specs.Keys.{same_key, code_of}
-use Rattle.cv_props.specs.KeyLaws.{same_code}
+use Rattle.cv_valuation.specs.declared.key.Key.{Key}
+use Rattle.cv_valuation.specs.declared.key.Key.TheVariants.{Custom, Table}
+use Rattle.cv_valuation.specs.Keys.{same_key, code_of}
+use Rattle.cv_valuation.specs.KeyLaws.{same_code}
 use Rattle.cv_property.specs.Table.{number_of, numbered}
-use Rattle.cv_props.specs.TableLaws.{PropertiesAreFound}
+use Rattle.cv_valuation.specs.TableLaws.{PropertiesAreFound}
 
 by_code : PropertiesAreFound → (a b : Key) → code_of a ≡ code_of b → a ≡ b
 by_code found (Custom a) (Custom b) same = let e : a ≡ b = cc in ap Custom e

@@ -1,11 +1,7 @@
+pub mod Ending
 pub mod Given
-pub mod Growing
 pub mod Keys
 pub mod Lines
-pub mod Naming
+pub mod Objects
 pub mod Reporting
-pub mod Shown
-pub mod Stepping
 pub mod Taken
-pub mod Trees
-pub mod Walked

@@ -4,14 +4,14 @@ use Rattle.std.specs.Prelude.{Contains}
 use Rattle.std.specs.List.{AllZip, enumerate_from, flat_map, slice_get}
 use Rattle.std.proofs.Math.Path.{fun_ext}
 use Rattle.std.proofs.lemmas.Option.{slice_get-get_or}
-use Rattle.cv_props.specs.declared.computed.Cause.{Cause}
-use Rattle.cv_props.specs.declared.computed.Computed.{Computed}
-use Rattle.cv_props.specs.declared.key.Key.{Key}
-use Rattle.cv_props.specs.Keys.{same_key}
-use Rattle.cv_props.specs.TableLaws.{PropertiesAreFound}
+use Rattle.cv_valuation.specs.declared.computed.Cause.{Cause}
+use Rattle.cv_valuation.specs.declared.computed.Computed.{Computed}
+use Rattle.cv_valuation.specs.declared.key.Key.{Key}
+use Rattle.cv_valuation.specs.Keys.{same_key}
+use Rattle.cv_valuation.specs.TableLaws.{PropertiesAreFound}
 use Rattle.cv_report.specs.Report.{cause_of, element_text, elements_text, value_lines}
-use Rattle.cv_element.specs.Element.{Faults, IsOnce}
-use Rattle.cv_element.specs.Single.{TellsTheSame}
+use Rattle.cv_spec_valuation.specs.Computed.{Faults, IsOnce}
+use Rattle.cv_spec_valuation.specs.Single.{TellsTheSame}
 use Rattle.cv_run.proofs.Keys.{key_same_itself, keys_same}
 
 held-cons : {X : Type 0} (x : X) (xs : List X) (y : X) → Contains (x ∷ xs) y → (x ≡ y) ⊎ Contains xs y

@@ -1,4 +1,4 @@
--- What becomes of an input: it is refused, isn't built yet, or is computed.
+-- What becomes of an input: it is refused, or is computed.
 use Rattle.std.specs.Prelude.{ℕ, ◌≡◌, ◌<◌, nat_lt, List, length, Result, Ok, Err, if◌then◌else◌}
 use Rattle.cv_doc.specs.declared.refusal.BadDoc.{BadDoc}
 use Rattle.cv_doc.specs.declared.refusal.What.{What}
@@ -6,28 +6,22 @@ use Rattle.cv_doc.specs.declared.refusal.What.TheVariants.{Bytes, Names}
 use Rattle.cv_doc.specs.Reading.{Shape, document_of}
 use Rattle.cv_doc.specs.Refusals.{Refusal}
 use Rattle.cv_doc.specs.Refusals as refusal
-use Rattle.cv_run.specs.Building.{is_unbuilt}
-use Rattle.cv_run.specs.Names.{counted}
+use Rattle.cv_tree.specs.Contents.{most_bytes}
+use Rattle.cv_tree.specs.Names.{counted}
 
--- A part of the input is too large, the document is malformed, it has a form that isn't built yet, or it is computed.
+-- A part of the input is too large, the document is malformed, or it is computed.
 pub data Fate : Type 0 where
   too_large : What → Fate
   malformed : BadDoc → Fate
-  unbuilt : Fate
   computed : Shape → Fate
-
--- the most bytes of an input
-abbrev pub most_bytes : ℕ
-most_bytes = 16777216
 
 -- the most different custom names
 abbrev pub most_names : ℕ
 most_names = 2048
 
--- what becomes of a document: what isn't built is told before the names are counted
+-- what becomes of a document
 abbrev pub fate_of_document : Shape → Fate
-fate_of_document document =
-    if is_unbuilt document then unbuilt else (if nat_lt most_names (counted document) then too_large Names else computed document)
+fate_of_document document = if nat_lt most_names (counted document) then too_large Names else computed document
 
 abbrev pub fate_of_reading : Result Shape Refusal → Fate
 fate_of_reading (Ok document) = fate_of_document document

@@ -1,10 +1,6 @@
-pub mod Building
+pub mod Asked
 pub mod Fates
-pub mod Names
 pub mod Outcome
-pub mod Single
+pub mod Reports
 pub mod StatusLines
-pub mod Styles
 pub mod Telling
-pub mod Tree
-pub mod Walking

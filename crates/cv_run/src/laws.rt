@@ -1,27 +1,32 @@
-//! The report of a document is single, and the names that it shows are those of properties.
+//! A document has one report, and a run one text.
 
-ghost use Rattle.std.specs.Prelude.{◌≡◌, ℕ, All, List, is_some, length, true};
-ghost use Rattle.cv_doc.specs.declared.elements.Elem.{Elem};
-ghost use Rattle.cv_doc.specs.Kept.{IsTree};
-ghost use Rattle.cv_doc.specs.Members.{is_name};
+ghost use Rattle.std.specs.Prelude.{◌≡◌, ℕ, List};
+ghost use Rattle.cv_doc.specs.Kept.{IsSound};
 ghost use Rattle.cv_doc.specs.Reading.{Shape};
-ghost use Rattle.cv_props.specs.Keys.{key_named};
-ghost use Rattle.cv_run.specs.Names.{named_keys};
+ghost use Rattle.cv_words.specs.declared.words.Job.{Job};
+ghost use Rattle.cv_tree.specs.Single.{HaveOneResult};
+ghost use Rattle.cv_tree.specs.Tree.{AreInRange, tree_of};
+ghost use Rattle.cv_tree_laws.specs.Texts.{AreTexts};
 ghost use Rattle.cv_run.specs.Outcome.{IsText};
-ghost use Rattle.cv_run.specs.Single.{HasOneReport, HaveOneResult};
+ghost use Rattle.cv_run.specs.Reports.{IsOnlyReport, IsReport};
 
-use cv_element::elements_have_one_result;
 use cv_props::properties_are_found;
+use cv_tree_laws::documents_in_range_have_one_result;
 use cv_words::words_say_one_thing;
 
-/// A tree of elements has exactly one valuation: values that solve the equations on each element, given its parent's, with the
-/// causes for which properties are invalid. A document has exactly one report.
+/// What a job writes of a document whose tree has one result is the only text that it may write.
 pub fn documents_have_one_report()
-    ensures valuation { (elements : List Elem) (limit : ℕ) → IsTree elements → HaveOneResult elements limit }
-    ensures report { (document : Shape) (limit : ℕ) → IsTree document.elements → HasOneReport document limit }
+    ensures { (job : Job) (document : Shape) (limit : ℕ) → HaveOneResult (tree_of document) limit → (text : List ℕ) → IsReport job document limit text → IsOnlyReport job document limit text }
 {
-    elements_have_one_result();
     properties_are_found();
+}
+
+/// Each document of texts has a text that a job writes of it, and no other, where no property is out of range on any of its elements.
+pub fn documents_in_range_have_one_report()
+    ensures { (job : Job) (document : Shape) (limit : ℕ) → IsSound document → AreTexts document → AreInRange (tree_of document) limit → (text : List ℕ) × IsOnlyReport job document limit text }
+{
+    documents_in_range_have_one_result();
+    documents_have_one_report();
 }
 
 /// The words of a command line and the bytes of an input have no more than one report.
@@ -30,9 +35,3 @@ pub fn runs_have_one_text()
 {
     words_say_one_thing();
 }
-
-/// The names that a document may show are those of keys, and so no name to show is dropped.
-pub fn shown_names_are_keys()
-    ensures named { (name : List ℕ) → is_name name ≡ is_some (key_named name) }
-    ensures all { (names : List (List ℕ)) → All (λ name. is_name name ≡ true) names → length (named_keys names) ≡ length names }
-{}

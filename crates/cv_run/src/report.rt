@@ -4,35 +4,27 @@ ghost use Rattle.std.specs.Prelude.{◌≤◌, IfErr, IfOk, length};
 ghost use Rattle.cv_doc.specs.Kept.{IsSound, TextsAreWithin};
 ghost use Rattle.cv_doc.specs.Reading.{document_of, shape_of};
 ghost use Rattle.cv_doc.specs.Refusals.{RefusesCounted};
-ghost use Rattle.cv_run.specs.Fates.{computed, fate_of_document, fate_of_reading, most_bytes};
-ghost use Rattle.cv_run.specs.Telling.{HasContents, IsRefusal, TellsOf};
+ghost use Rattle.cv_tree.specs.Contents.{HasContents, most_bytes};
+ghost use Rattle.cv_run.specs.Fates.{computed, fate_of_document, fate_of_reading};
+ghost use Rattle.cv_run.specs.Telling.{IsRefusal, IsReportOf, IsSized};
+ghost use Rattle.cv_words.specs.declared.words.Job.TheVariants.{Compute};
 
-use crate::contents::{Contents, contents_of};
-use crate::laws::documents_have_one_report;
-use crate::names::count_names;
 use crate::status::Status;
-use crate::tree::computed_of;
+use crate::writing::Report;
 use cv_doc::{DocErr, Document, What};
-use cv_props::{Computed, Key, Note};
-use std::alloc::{AllocError, Global};
+use cv_tree::{Contents, Stop, computed_of_document, contents_of, counted_names};
+use std::alloc::Global;
 
 const MOST_NAMES: usize = 2048;
-
-/// What a report tells.
-#[derive(Drop)]
-pub struct Report {
-    pub notes: Vec<Note>,
-    pub shown: Vec<Key>,
-    pub all: Vec<Computed>,
-}
 
 /// The report of the bytes of a document, or the status with which it has none.
 pub fn report_of(alloc: Global, bytes: &[u8], limit: u32) -> Result<Report, Status>
     requires short { length bytes.now ≤ most_bytes }
     requires least { 1 ≤ limit }
     requires most { limit ≤ 32768 }
-    ensures tells { IfOk result (λ report. TellsOf (fate_of_reading (document_of bytes.now)) limit report) }
-    ensures refused { IfErr result (λ status. IsRefusal (fate_of_reading (document_of bytes.now)) status) }
+    ensures tells { IfOk result (IsReportOf limit (fate_of_reading (document_of bytes.now))) }
+    ensures sized { IfOk result IsSized }
+    ensures refused { IfErr result (IsRefusal Compute limit (fate_of_reading (document_of bytes.now))) }
     ensures counted { RefusesCounted (document_of bytes.now) }
 {
     let document = match Document::of_bytes(alloc, bytes) {
@@ -49,22 +41,16 @@ fn report_of_document(alloc: Global, document: &Document, limit: u32) -> Result<
     requires short { TextsAreWithin most_bytes (shape_of document.now) }
     requires least { 1 ≤ limit }
     requires most { limit ≤ 32768 }
-    ensures tells { IfOk result (λ report. TellsOf (fate_of_document (shape_of document.now)) limit report) }
-    ensures refused { IfErr result (λ status. IsRefusal (fate_of_document (shape_of document.now)) status) }
+    ensures tells { IfOk result (IsReportOf limit (fate_of_document (shape_of document.now))) }
+    ensures sized { IfOk result IsSized }
+    ensures refused { IfErr result (IsRefusal Compute limit (fate_of_document (shape_of document.now))) }
 {
-    let Some(contents) = contents_of(alloc, document)? else {
-        return Err(Status::Unbuilt);
-    };
-    let names = count_names(
-        alloc,
-        &contents.declarations,
-        &document.show,
-        &document.commands,
-    )?;
-    if names > MOST_NAMES {
+    let contents = contents_of(alloc, document)?;
+    let names = counted_names(alloc, document, &contents)?;
+    if names.len() > MOST_NAMES {
         return Err(Status::TooLarge(What::Names));
     }
-    Ok(report_of_contents(alloc, document, contents, limit)?)
+    report_of_contents(alloc, document, contents, limit)
 }
 
 fn report_of_contents(
@@ -72,25 +58,24 @@ fn report_of_contents(
     document: &Document,
     contents: Contents,
     limit: u32,
-) -> Result<Report, AllocError>
+) -> Result<Report, Status>
     requires sound { IsSound (shape_of document.now) }
     requires contents { HasContents (shape_of document.now) contents }
     requires least { 1 ≤ limit }
     requires most { limit ≤ 32768 }
-    ensures { IfOk result (λ report. TellsOf (computed (shape_of document.now)) limit report) }
+    ensures tells { IfOk result (IsReportOf limit (computed (shape_of document.now))) }
+    ensures sized { IfOk result IsSized }
+    ensures refused { IfErr result (IsRefusal Compute limit (computed (shape_of document.now))) }
 {
-    documents_have_one_report();
-    let all = computed_of(
-        alloc,
-        &document.elements,
-        contents.registry,
-        contents.declarations,
-        (document.width, document.height),
-        limit,
-    )?;
+    let all = match computed_of_document(alloc, document, &contents, limit) {
+        Ok(all) => all,
+        Err(Stop::Range { element, property }) => return Err(Status::Range { element, property }),
+        Err(Stop::Memory) => return Err(Status::NoMemory),
+    };
     Ok(Report {
         notes: contents.notes,
         shown: contents.shown,
+        declarations: contents.declarations,
         all,
     })
 }

@@ -5,6 +5,7 @@ ghost use Rattle.cv_run.specs.StatusLines.{code_of};
 ghost use Rattle.cv_run.specs.declared.status.Status.TheVariants.{NoMemory};
 
 use cv_doc::{BadDoc, What};
+use cv_props::Key;
 use std::alloc::AllocError;
 
 #[derive(Debug, PartialEq, Eq, Drop)]
@@ -19,8 +20,13 @@ pub enum Status {
     TooLarge(What),
     /// The document is refused.
     Malformed(BadDoc),
-    /// The document has a form that isn't built yet.
-    Unbuilt,
+    /// On this element, the first such, this property isn't invalid and is out of range.
+    Range {
+        /// The index of the element.
+        element: u32,
+        /// One of its properties that are out of range.
+        property: Key,
+    },
     /// A write failed; a front of the report was written.
     WriteFault,
     /// Memory ran out; a front of the report was written.
@@ -38,9 +44,9 @@ impl Status {
             Status::ReadFault => 3,
             Status::TooLarge(_) => 4,
             Status::Malformed(_) => 5,
+            Status::Range { .. } => 6,
             Status::WriteFault => 7,
             Status::NoMemory => 8,
-            Status::Unbuilt => 9,
         }
     }
 }

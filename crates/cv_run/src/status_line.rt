@@ -1,24 +1,26 @@
 //! The line of a status.
 
-ghost use Rattle.std.specs.Prelude.{◌≡◌, ◌∷◌, []};
+ghost use Rattle.std.specs.Prelude.{◌≡◌, ◌∷◌, [], IfOk};
 ghost use Rattle.cv_io.specs.Causes.{HasSinkCause};
 ghost use Rattle.cv_report.specs.Written.{TookText};
 ghost use Rattle.cv_spec_text.specs.Characters.{line_feed};
-ghost use Rattle.cv_run.specs.StatusLines.{ended, line, line_of, malformed_line, part_text};
+ghost use Rattle.cv_run.specs.StatusLines.{ended, line, line_of, malformed_line, part_text, range_line};
 
 use crate::status::Status;
 use cv_doc::{BadDoc, What};
 use cv_io::{Sink, SinkErr, put};
+use cv_props::{Key, key_text};
 use itoa::Buffer;
+use std::alloc::{AllocError, Global};
 
 impl Status {
     /// Writes the line of the status with its LF, as `cssvars: malformed: field elements/3/style`; none where the run is done.
-    /// It takes no memory of its own.
+    /// Only the line of a property that is out of range takes memory.
     ///
     /// # Errors
     ///
-    /// Those of the sink. After each a front of the line was taken.
-    pub fn put_line<E: Sink>(&self, err: &mut E) -> Result<(), SinkErr>
+    /// Those of the sink, and want of memory. After each a front of the line was taken.
+    pub fn put_line<E: Sink>(&self, alloc: Global, err: &mut E) -> Result<(), SinkErr>
         ensures taken { TookText (E.taken err.old) (E.taken err.new) (line_of self.now) result }
         ensures cause { HasSinkCause (E.faults err.old) (E.faults err.new) result }
     {
@@ -30,7 +32,7 @@ impl Status {
                 put_around(err, b"cssvars: too large: ", part_text(*what).as_bytes())
             }
             Status::Malformed(why) => put_malformed(err, why),
-            Status::Unbuilt => put_text(err, b"cssvars: not built\n"),
+            Status::Range { element, property } => put_range(alloc, err, *element, property),
             Status::WriteFault => put_text(err, b"cssvars: write fault\n"),
             Status::NoMemory => put_text(err, b"cssvars: no memory\n"),
         }
@@ -47,6 +49,34 @@ fn part_text(what: What) -> &'static str
         What::Commands => "commands",
         What::Names => "names",
     }
+}
+
+// Writes the line of a property that is out of range on an element.
+fn put_range<E: Sink>(
+    alloc: Global,
+    err: &mut E,
+    element: u32,
+    property: &Key,
+) -> Result<(), SinkErr>
+    ensures taken { TookText (E.taken err.old) (E.taken err.new) (range_line element property.now) result }
+    ensures cause { HasSinkCause (E.faults err.old) (E.faults err.new) result }
+{
+    match range_text(alloc, element, property) {
+        Ok(text) => put_text(err, &text),
+        Err(_) => Err(SinkErr::Memory),
+    }
+}
+
+fn range_text(alloc: Global, element: u32, property: &Key) -> Result<Vec<u8>, AllocError>
+    ensures { IfOk result (λ text. text.items ≡ range_line element property.now) }
+{
+    let mut text = Vec::from_slice(alloc, b"cssvars: out of range: element ")?;
+    let mut buffer = Buffer::new();
+    text.extend_from_slice(buffer.format(element).as_bytes())?;
+    text.push(b' ')?;
+    key_text(alloc, property, &mut text)?;
+    text.push(b'\n')?;
+    Ok(text)
 }
 
 fn put_malformed<E: Sink>(err: &mut E, why: &BadDoc) -> Result<(), SinkErr>

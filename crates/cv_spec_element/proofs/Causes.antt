@@ -2,10 +2,11 @@
 use Rattle.std.proofs.Common.{◌≡◌, ◌≤◌, ℕ, true, false, List, length, Some, None, Result, Ok, Err, ◌⊎◌, inl, inr, refl, sym, ◌∙◌, ap, subst, arith}
 use Rattle.std.specs.Prelude.{IsSome}
 use Rattle.cv_spec_element.specs.Pieces.{Pieces, sub}
+use Rattle.cv_spec_element.specs.Keywords.{Keyword}
 use Rattle.cv_spec_element.specs.Words.{trim, keyword_of}
 use Rattle.cv_spec_element.specs.Element.{Matched, no, out, fit, Outcome, Element}
 use Rattle.cv_spec_element.specs.Dependencies.{tokens_of}
-use Rattle.cv_spec_element.specs.Valuation.{Cause, cycle, missing, limit, mismatch, font_size_for, SubIs, IsSubstituted, IsMatched, IsOverLimit, IsInvalid, invalid_value, Gives, undeclared, refused, by_keyword, trimmed, out_of_range, computed, HasOneCause}
+use Rattle.cv_spec_element.specs.Valuation.{Cause, cycle, missing, limit, mismatch, font_size_for, SubIs, IsSubstituted, IsMatched, IsOverLimit, IsInvalid, invalid_value, Gives, undeclared, refused, by_keyword, trimmed, out_of_range, computed, IsOutOfRange, Uses, uses_keyword, uses_list, uses_value, IsUsed, IsRefused, IsRanged, HasOneCause}
 use Rattle.cv_spec_element.proofs.RightSide.{cyclic_declared}
 
 module _ {K T V U M : Type 0} (e : Element K T V U M) (values : K → Outcome T V) (p : K) where
@@ -97,3 +98,46 @@ module _ {K T V U M : Type 0} (e : Element K T V U M) (values : K → Outcome T 
       absurd (not_invalid list h.substituted (λ other o. let clash : out ≡ no = match_one list other out no h o in cc) cause invalid_is)
   invalid_has outcome (computed list value h is) cause invalid_is =
       absurd (not_invalid list h.substituted (λ other o. let clash : fit value ≡ no = match_one list other (fit value) no h o in cc) cause invalid_is)
+
+  -- a list that matches otherwise isn't out of range
+  not_out : (list : List T) (m : Matched V) → IsMatched e values p list m → ¬ (m ≡ out) → ¬ IsOutOfRange e values p
+  not_out list m h other ranged = other (match_one list ranged.0 m out h ranged.1)
+
+  pub used : (outcome : Outcome T V) → Uses e values p outcome → IsUsed e values p outcome
+  used outcome (uses_keyword list w ok word is) = record {
+    given = by_keyword list w ok word is;
+    valid = not_invalid list ok (λ other h. no_word list w ok word other h.substituted.sub_is h.no_keyword);
+    in_range = λ ranged. no_word list w ok word ranged.0 ranged.1.substituted.sub_is ranged.1.no_keyword;
+  }
+    where
+      no_word : (list : List T) (w : Keyword) → IsSubstituted e values p list → keyword_of e.words list ≡ Some w → (other : List T) → SubIs e values p (Ok other) → keyword_of e.words other ≡ None → ⊥
+      no_word list w ok word other sub_is none = let same : list ≡ other = list_one list other ok.sub_is sub_is in let clash : Some w ≡ None = sym word ∙ ap (keyword_of e.words) same ∙ none in cc
+  used outcome (uses_list list ok none loose is) = record {
+    given = trimmed list ok none loose is;
+    valid = not_invalid list ok (λ other h. let clash : true ≡ false = sym loose ∙ h.is_typed in cc);
+    in_range = λ ranged. let clash : true ≡ false = sym loose ∙ ranged.1.is_typed in cc;
+  }
+  used outcome (uses_value list value h is) = record {
+    given = computed list value h is;
+    valid = not_invalid list h.substituted (λ other o. let clash : fit value ≡ no = match_one list other (fit value) no h o in cc);
+    in_range = not_out list (fit value) h (λ same. cc);
+  }
+
+  refused_not_out : (cause : Cause K) → IsInvalid e values p cause → ¬ IsOutOfRange e values p
+  refused_not_out cycle loops ranged = ranged.1.substituted.loopless loops
+  refused_not_out (missing n) h ranged = not_both n ranged.0 h.1 ranged.1.substituted.sub_is
+  refused_not_out (limit count) h ranged = not_over count ranged.0 h.1 ranged.1.substituted
+  refused_not_out mismatch h ranged = let clash : no ≡ out = match_one h.0 ranged.0 no out h.1 ranged.1 in cc
+
+  pub refused_is : (cause : Cause K) → IsInvalid e values p cause → IsRefused e values p cause
+  refused_is cause h = record {
+    given = refused cause h refl;
+    only = λ other other_is. cause_one cause other h other_is;
+    in_range = refused_not_out cause h;
+  }
+
+  pub ranged_is : IsOutOfRange e values p → IsRanged e values p
+  ranged_is ranged = record {
+    given = out_of_range ranged.0 ranged.1 refl;
+    valid = λ cause h. refused_not_out cause h ranged;
+  }

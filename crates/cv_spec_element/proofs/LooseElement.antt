@@ -23,7 +23,7 @@ module _ {K T : Type 0} (is_same : K → K → Bool) (font_size : K) (declaratio
     named = record { same = laws.same; listed = laws.listed; refers_custom = λ p q refers. refl };
     inherited = record { initial_kept = λ p. refl; parent_kept = λ p value is. parent_kept laws p value parent refl is };
     matching = record {
-      plain_value = λ p m list value firm is. absurd (let clash : true ≡ false = firm in cc);
+      plain_value = λ p m list value firm custom is. absurd (let clash : true ≡ false = firm in cc);
       reads_alike = λ p m n list firm custom none. refl;
       reads_plain = λ p m n list firm custom plain. refl;
     };

@@ -76,3 +76,25 @@ module _ {K T V U M : Type 0} (e : Element K T V U M) (laws : IsLawful e) where
   pub settled_ranges : (values : K → Outcome T V) (settled : (p : K) → IsSettled e values p) (p : K) → IsOutOfRange e (settled p).earlier p ↔ IsOutOfRange e values p
   settled_ranges values settled p =
       out_of_range_kept e laws values (settled p).earlier p (λ q here. (sym ((settled p).kept q here), settled_sound values settled q))
+
+  -- two valuations agree where a property reads, so that they have the same causes and ranges
+  agrees : (values others : K → Outcome T V) → IsValuation e values → IsValuation e others → (q : K) → (others q ≡ values q) × IsSound e laws q (others q)
+  agrees values others first second q =
+      (one_valuation.only others second q ∙ sym (one_valuation.only values first q), sound e.declarations.names (Reads e) next (IsSound e laws) (equations_read e laws) others (valuation_next others second) q)
+
+  pub same_causes : (values others : K → Outcome T V) → IsValuation e values → IsValuation e others → (p : K) (cause : Cause K) → IsInvalid e values p cause ↔ IsInvalid e others p cause
+  same_causes values others first second p cause = invalid_kept e laws others values p (λ q here. agrees values others first second q) cause
+
+  pub same_ranges : (values others : K → Outcome T V) → IsValuation e values → IsValuation e others → (p : K) → IsOutOfRange e values p ↔ IsOutOfRange e others p
+  same_ranges values others first second p = out_of_range_kept e laws others values p (λ q here. agrees values others first second q)
+
+  -- the causes and the range of a property follow from what it reads
+  unchanged : (values : K → Outcome T V) → IsValuation e values → (earlier : K → Outcome T V) (p : K) → ((q : K) → Reads e p q → earlier q ≡ values q) → (q : K) → Reads e p q → (values q ≡ earlier q) × IsSound e laws q (values q)
+  unchanged values solves earlier p kept q here =
+      (sym (kept q here), sound e.declarations.names (Reads e) next (IsSound e laws) (equations_read e laws) values (valuation_next values solves) q)
+
+  pub kept_causes : (values : K → Outcome T V) → IsValuation e values → (earlier : K → Outcome T V) (p : K) → ((q : K) → Reads e p q → earlier q ≡ values q) → (cause : Cause K) → IsInvalid e earlier p cause ↔ IsInvalid e values p cause
+  kept_causes values solves earlier p kept cause = invalid_kept e laws values earlier p (unchanged values solves earlier p kept) cause
+
+  pub kept_ranges : (values : K → Outcome T V) → IsValuation e values → (earlier : K → Outcome T V) (p : K) → ((q : K) → Reads e p q → earlier q ≡ values q) → IsOutOfRange e earlier p ↔ IsOutOfRange e values p
+  kept_ranges values solves earlier p kept = out_of_range_kept e laws values earlier p (unchanged values solves earlier p kept)

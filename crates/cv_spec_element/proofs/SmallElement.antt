@@ -50,8 +50,8 @@ plain value = record {
     by_unit relative font (inr later) = later
 
 kept : (p : SmallName) → IsKept small_element p (first_value p)
-kept size = (refl, plain 16)
-kept length = (refl, plain 0)
+kept size = (refl, λ custom. plain 16)
+kept length = (refl, λ custom. plain 0)
 kept loose = refl
 
 reads_alike : (m n : ℕ) (list : List SmallToken) → ((u : SmallUnit) → small_element.words.is_font_unit u ≡ true → ¬ HasUnit small_element.words list u) → read_length m list ≡ read_length n list
@@ -65,7 +65,7 @@ small_lawful = record {
   named = record { same = same_decides; listed = listed; refers_custom = refers_custom };
   inherited = record { initial_kept = kept; parent_kept = λ p value is. absurd (cc) };
   matching = record {
-    plain_value = λ p m list value firm is. plain value;
+    plain_value = λ p m list value firm custom is. plain value;
     reads_alike = λ p m n list firm custom none. reads_alike m n list none;
     reads_plain = λ p m n list firm custom short. absurd (cc);
   };

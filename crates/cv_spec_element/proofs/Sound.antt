@@ -38,19 +38,20 @@ by_keyword_cases {O} first parent inherits w = by_word w
     by_word revert_layer = of_defaulted inherits
 
 module _ {K T V U M : Type 0} (e : Element K T V U M) (laws : IsLawful e) where
-  -- the outcome's tokens are no CSS-wide keyword, and have no font unit but those that a loose property holds
+  -- the tokens of a custom property's outcome are no CSS-wide keyword, and have no font unit but those that a loose
+  -- property holds
   abbrev pub IsSound : K → Outcome T V → Type 0
-  IsSound p outcome = (list : List T) → tokens_of e outcome ≡ Some list → (keyword_of e.words list ≡ None) × ((u : U) → e.words.is_font_unit u ≡ true → HasUnit e.words list u → (e.properties.is_loose p ≡ true) × Holds e p u)
+  IsSound p outcome = e.properties.is_custom p ≡ true → (list : List T) → tokens_of e outcome ≡ Some list → (keyword_of e.words list ≡ None) × ((u : U) → e.words.is_font_unit u ≡ true → HasUnit e.words list u → (e.properties.is_loose p ≡ true) × Holds e p u)
 
   -- what is kept is sound where a loose property holds its units
   kept_sound : (p : K) (outcome : Outcome T V) → IsKept e p outcome → (e.properties.is_loose p ≡ true → (u : U) → e.words.is_font_unit u ≡ true → OutcomeHasUnit e outcome u → Holds e p u) → IsSound p outcome
-  kept_sound p (tokens own) kept holds list is =
+  kept_sound p (tokens own) kept holds custom list is =
       let same : own ≡ list = cc in
       (ap (keyword_of e.words) (sym same) ∙ kept.1, λ u font has. (kept.0, holds kept.0 u font (list, is, has)))
-  kept_sound p (typed value) kept holds list is =
+  kept_sound p (typed value) kept holds custom list is =
       let same : e.values.text value ≡ list = cc in
-      (ap (keyword_of e.words) (sym same) ∙ kept.1.no_keyword, λ u font has. absurd (kept.1.no_font_unit u font (subst (λ x. HasUnit e.words x u) (sym same) has)))
-  kept_sound p invalid kept holds list is = absurd (cc)
+      (ap (keyword_of e.words) (sym same) ∙ (kept.1 custom).no_keyword, λ u font has. absurd ((kept.1 custom).no_font_unit u font (subst (λ x. HasUnit e.words x u) (sym same) has)))
+  kept_sound p invalid kept holds custom list is = absurd (cc)
 
   keyword_cases : (p : K) (w : Keyword) → (keyword_value e p w ≡ e.values.initial p) ⊎ ((value : Outcome T V) × (e.values.parent p ≡ Some value) × (keyword_value e p w ≡ value))
   keyword_cases p w = by_keyword_cases (e.values.initial p) (e.values.parent p) (e.properties.inherits p) w
@@ -98,7 +99,7 @@ module _ {K T V U M : Type 0} (e : Element K T V U M) (laws : IsLawful e) where
     where
       through : (q : K) × RefersTo pieces q × ((used : List T) × (tokens_of e (v q) ≡ Some used) × HasUnit e.words used u) → Holds e p u
       through (q, refers, (used, used_is, used_has)) =
-          let held = (sound q refers used used_is).1 u font used_has in
+          let held = (sound q refers (laws.named.refers_custom p q (pieces, is, refers)) used used_is).1 u font used_has in
           Holds-through p q u ((pieces, is, refers), held.0) held.1
 
   -- what an edge of the graph of reads leads to
@@ -187,7 +188,7 @@ module _ {K T V U M : Type 0} (e : Element K T V U M) (laws : IsLawful e) where
         by_size true is_size = rw is_size refl
         by_size false other = rw other (by_custom (λ h. clash (e.properties.is_same p e.properties.font_size) ((laws.named.same p e.properties.font_size).1 h) other) (e.properties.is_custom p) refl)
 
-    matched_sound : e.properties.is_loose p ≡ false → (m : Matched V) → ((value : V) → m ≡ fit value → IsPlainValue e value) → IsSound p (of_match e p m)
+    matched_sound : e.properties.is_loose p ≡ false → (m : Matched V) → ((value : V) → m ≡ fit value → e.properties.is_custom p ≡ true → IsPlainValue e value) → IsSound p (of_match e p m)
     matched_sound firm no _ = invalid_sound p
     matched_sound firm out _ = undeclared_sound p (λ loose. absurd (clash (e.properties.is_loose p) loose firm))
     matched_sound firm (fit value) plain = kept_sound p (typed value) (firm, plain value refl) (λ loose u font has. absurd (clash (e.properties.is_loose p) loose firm))
@@ -204,10 +205,10 @@ module _ {K T V U M : Type 0} (e : Element K T V U M) (laws : IsLawful e) where
       where
         by_loose : keyword_of e.words list ≡ None → (b : Bool) → e.properties.is_loose p ≡ b → (read_plainly e p (font_size_for e v p) list b ≡ read_plainly e p (font_size_for e w p) list b) × IsSound p (read_plainly e p (font_size_for e v p) list b)
         by_loose plain true loose = (refl, trimmed_sound list sub_is plain loose)
-        by_loose plain false firm = (ap (of_match e p) (reads_same list sub_is firm), matched_sound firm (e.values.reads p (font_size_for e v p) (trim e.words list)) (λ value value_is. laws.matching.plain_value p (font_size_for e v p) (trim e.words list) value firm value_is))
+        by_loose plain false firm = (ap (of_match e p) (reads_same list sub_is firm), matched_sound firm (e.values.reads p (font_size_for e v p) (trim e.words list)) (λ value value_is custom. laws.matching.plain_value p (font_size_for e v p) (trim e.words list) value firm custom value_is))
 
         declared_word : (word : Keyword) → keyword_of e.words list ≡ Some word → HoldsKeyword e p
-        declared_word word word_is = (pieces, is, sub_keyword e.words (λ q. tokens_of e (v q)) pieces list word sub_is word_is (λ q used refers used_is. (sound_there q refers used used_is).0))
+        declared_word word word_is = (pieces, is, sub_keyword e.words (λ q. tokens_of e (v q)) pieces list word sub_is word_is (λ q used refers used_is. (sound_there q refers (laws.named.refers_custom p q (pieces, is, refers)) used used_is).0))
 
         by_word : (o : Option Keyword) → keyword_of e.words list ≡ o → (read_list e p (font_size_for e v p) list o ≡ read_list e p (font_size_for e w p) list o) × IsSound p (read_list e p (font_size_for e v p) list o)
         by_word (Some word) word_is =

@@ -95,3 +95,7 @@ module _ {K T V U M : Type 0} (e : Element K T V U M) where
   -- reads the font size
   abbrev pub Reads : K → K → Type 0
   Reads p q = ((¬ DependsOnItself p) × Edge p q) ⊎ ((q ≡ e.properties.font_size) × IsReadAtFontSize p)
+
+  -- what the equation of p may read: along an edge, or as an ordinary property reads the font size
+  abbrev pub Needs : K → K → Type 0
+  Needs p q = Edge p q ⊎ ((q ≡ e.properties.font_size) × IsReadAtFontSize p)

@@ -21,10 +21,10 @@ module _ {K T V U M : Type 0} (e : Element K T V U M) where
     pub no_font_unit : (u : U) → e.words.is_font_unit u ≡ true → ¬ HasUnit e.words (e.values.text value) u
 
   -- what may be kept for a property: for a loose one tokens that are no CSS-wide keyword, or the guaranteed-invalid
-  -- value, and for another a typed value
+  -- value, and for another a typed value; a reference may put the text of a custom one into a list
   abbrev pub IsKept : K → Outcome T V → Type 0
   IsKept p (tokens list) = (e.properties.is_loose p ≡ true) × (keyword_of e.words list ≡ None)
-  IsKept p (typed value) = (e.properties.is_loose p ≡ false) × IsPlainValue value
+  IsKept p (typed value) = (e.properties.is_loose p ≡ false) × (e.properties.is_custom p ≡ true → IsPlainValue value)
   IsKept p invalid = e.properties.is_loose p ≡ true
 
   -- what is given before the element is computed is what may be kept
@@ -34,8 +34,8 @@ module _ {K T V U M : Type 0} (e : Element K T V U M) where
 
   -- how grammars and syntaxes read lists
   pub record IsMatching : Type 0 where
-    -- a typed value is in canonical units, and is no keyword
-    pub plain_value : (p : K) (m : M) (list : List T) (value : V) → e.properties.is_loose p ≡ false → e.values.reads p m list ≡ fit value → IsPlainValue value
+    -- a typed value of a custom property is in canonical units, and is no keyword
+    pub plain_value : (p : K) (m : M) (list : List T) (value : V) → e.properties.is_loose p ≡ false → e.properties.is_custom p ≡ true → e.values.reads p m list ≡ fit value → IsPlainValue value
     -- a custom property reads a list without font units alike at every font size
     pub reads_alike : (p : K) (m n : M) (list : List T) → e.properties.is_loose p ≡ false → e.properties.is_custom p ≡ true → ((u : U) → e.words.is_font_unit u ≡ true → ¬ HasUnit e.words list u) → e.values.reads p m list ≡ e.values.reads p n list
     -- and every list, where its syntax has no lengths

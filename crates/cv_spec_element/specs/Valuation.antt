@@ -117,3 +117,26 @@ module _ {K T V U M : Type 0} (e : Element K T V U M) where
     pub cause : Cause K
     pub holds : IsInvalid values p cause
     pub only : (other : Cause K) → IsInvalid values p other → other ≡ cause
+
+  -- what a declaration gives by its list: the value of a keyword, the trimmed list, or the value that it matches
+  pub data Uses (values : K → Outcome T V) (p : K) (outcome : Outcome T V) : Type 0 where
+    uses_keyword : (list : List T) (w : Keyword) → IsSubstituted values p list → keyword_of e.words list ≡ Some w → outcome ≡ keyword_value e p w → Uses values p outcome
+    uses_list : (list : List T) → IsSubstituted values p list → keyword_of e.words list ≡ None → e.properties.is_loose p ≡ true → outcome ≡ tokens (trim e.words list) → Uses values p outcome
+    uses_value : (list : List T) (value : V) → IsMatched values p list (fit value) → outcome ≡ typed value → Uses values p outcome
+
+  -- the equations give a property this value, and no cause and no range stands beside it
+  pub record IsUsed (values : K → Outcome T V) (p : K) (outcome : Outcome T V) : Type 0 where
+    pub given : Gives values p outcome
+    pub valid : (cause : Cause K) → ¬ IsInvalid values p cause
+    pub in_range : ¬ IsOutOfRange values p
+
+  -- the property is invalid with this cause alone, which gives it the value of such a property
+  pub record IsRefused (values : K → Outcome T V) (p : K) (cause : Cause K) : Type 0 where
+    pub given : Gives values p (invalid_value p)
+    pub only : (other : Cause K) → IsInvalid values p other → other ≡ cause
+    pub in_range : ¬ IsOutOfRange values p
+
+  -- the property is out of range and not invalid, and its place is filled
+  pub record IsRanged (values : K → Outcome T V) (p : K) : Type 0 where
+    pub given : Gives values p (undeclared_value e p)
+    pub valid : (cause : Cause K) → ¬ IsInvalid values p cause

@@ -25,5 +25,5 @@ pub fn loose_elements_are_solved<K, T>()
     ensures one_cause { (e : Element K T ⊥ ⊥ (Unit {0})) (values : K → Outcome T ⊥) (p : K) (one other : Cause K) → IsInvalid e values p one → IsInvalid e values p other → other ≡ one }
     ensures one_or_none { (e : Element K T ⊥ ⊥ (Unit {0})) (values : K → Outcome T ⊥) → IsValuation e values → (p : K) → HasOneCause e values p ⊎ ((cause : Cause K) → ¬ IsInvalid e values p cause) }
     ensures declared { (e : Element K T ⊥ ⊥ (Unit {0})) (values : K → Outcome T ⊥) (p : K) (cause : Cause K) → IsInvalid e values p cause → IsSome (e.declarations.pieces p) }
-    ensures cycles { (e : Element K T ⊥ ⊥ (Unit {0})) (name : ℕ → K) (rows : List (List ℕ)) → IsNumbering e name rows → (i : ℕ) → i < length rows → IsCyclic (NumberEdge rows) i ↔ DependsOnItself e (name i) }
+    ensures cycles { (e : Element K T ⊥ ⊥ (Unit {0})) (name : ℕ → K) (rows : List (List ℕ)) → IsLawful e → IsNumbering e name rows → (i : ℕ) → i < length rows → IsCyclic (NumberEdge rows) i ↔ DependsOnItself e (name i) }
 {}

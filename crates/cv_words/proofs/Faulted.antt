@@ -11,11 +11,11 @@ use Rattle.clap.specs.Walk.{Held, Row, Rule, Step, next, trailing, subcommand, v
 use Rattle.clap.specs.declared.builder.value_parser.ValueParser.TheVariants.{Names}
 use Rattle.clap.specs.declared.error.kind.ErrorKind.TheVariants.{TooManyValues}
 use Rattle.cv_words.specs.Command.{command_of}
-use Rattle.cv_words.proofs.Lent.{Address, found, job, lent, rules, shape}
+use Rattle.cv_words.proofs.Lent.{Lease, found, job, lent, rules, shape}
 use Rattle.cv_words.proofs.Walked.{finished_same, reacted_same, settled_same, walk_same, walked_same, word_met_same}
 
 -- the command has no subcommand to enter
-pub fault_at : (at : Address × Address) (words : List Text) → fault_of (command_of (lent at)) words ≡ level_fault (shape (lent at)) [] nothing_held words false []
+pub fault_at : (at : Lease) (words : List Text) → fault_of (command_of (lent at)) words ≡ level_fault (shape (lent at)) [] nothing_held words false []
 fault_at at words = go (walk (rules (lent at)) [] nothing_held words).stopped
   where
     level : Option (Text × List Text) → Kinds
@@ -25,7 +25,7 @@ fault_at at words = go (walk (rules (lent at)) [] nothing_held words).stopped
     go None = refl
     go (Some p) = refl
 
-module _ (one two : Address × Address) where
+module _ (one two : Lease) where
   abbrev a : List Rule
   a = rules (lent one)
 

@@ -19,12 +19,12 @@ use Rattle.clap.proofs.ValueTestLemmas.{accepts-Accepts}
 use Rattle.clap.proofs.WalkLemmas.{both}
 use Rattle.cv_words.specs.Command.{command_of}
 use Rattle.cv_words.specs.Words.{GivesNumber, HasWords, job_named}
-use Rattle.cv_words.specs.declared.words.Job.TheVariants.{Compute}
+use Rattle.cv_words.specs.declared.words.Job.{Job}
 use Rattle.cv_words.specs.declared.words.Words.{Words}
 use Rattle.cv_words.proofs.Given.{named_job}
 use Rattle.cv_words.proofs.Taken.{no_fault, taken_at, taken_where}
 use Rattle.cv_words.proofs.Kept.{Keeps, settled_keeps, walk_keeps}
-use Rattle.cv_words.proofs.Lent.{Address, job, lent, limit, rules, shape, size}
+use Rattle.cv_words.proofs.Lent.{Lease, job, lent, limit, rules, shape, size}
 
 -- ---- rows
 
@@ -54,29 +54,29 @@ has-append id (r ∷ rows) more = go (bytes_eq r.id id) (has-append id rows more
     go false rest = rest
 
 -- a row has one value, which passed the parser of its argument
-record FitsRow (at : Address × Address) (r : Row) : Type 0 where
+record FitsRow (at : Lease) (r : Row) : Type 0 where
   text : Text
   one : r.values ≡ text ∷ []
   job_fits : bytes_eq r.id (codes "job") ≡ true → value_passes (job (lent at)) text ≡ true
   limit_fits : bytes_eq r.id (codes "limit") ≡ true → value_passes limit text ≡ true
   size_fits : bytes_eq r.id (codes "size") ≡ true → value_passes size text ≡ true
 
-abbrev Fit : Address × Address → List Row → Type 0
+abbrev Fit : Lease → List Row → Type 0
 Fit at [] = ⊤
 Fit at (r ∷ rows) = FitsRow at r × Fit at rows
 
-Fit-append : (at : Address × Address) (rows more : List Row) → Fit at rows → Fit at more → Fit at (rows ++ more)
+Fit-append : (at : Lease) (rows more : List Row) → Fit at rows → Fit at more → Fit at (rows ++ more)
 Fit-append at [] more fit others = others
 Fit-append at (r ∷ rows) more fit others = (fit.0, Fit-append at rows more fit.1 others)
 
 -- the row of an id that has one
-record RowOf (at : Address × Address) (rows : List Row) (id : Text) : Type 0 where
+record RowOf (at : Lease) (rows : List Row) (id : Text) : Type 0 where
   row : Row
   fits : FitsRow at row
   named : bytes_eq row.id id ≡ true
   first : find (λ r. bytes_eq r.id id) rows ≡ Some row
 
-row_of_id : (at : Address × Address) (rows : List Row) (id : Text) → Fit at rows → has_row id rows ≡ true → RowOf at rows id
+row_of_id : (at : Lease) (rows : List Row) (id : Text) → Fit at rows → has_row id rows ≡ true → RowOf at rows id
 row_of_id at [] id fit has = absurd (true≢false (sym has))
 row_of_id at (r ∷ rows) id fit has = go (bytes_eq r.id id) refl (row_of_id at rows id fit.1) has
   where
@@ -86,7 +86,7 @@ row_of_id at (r ∷ rows) id fit has = go (bytes_eq r.id id) refl (row_of_id at 
         let later = rest has in
         record { row = later.row; fits = later.fits; named = later.named; first = rw is later.first }
 
-first_text : (at : Address × Address) (rows : List Row) (id : Text) (of : RowOf at rows id) → first_of id rows ≡ Some of.fits.text
+first_text : (at : Lease) (rows : List Row) (id : Text) (of : RowOf at rows id) → first_of id rows ≡ Some of.fits.text
 first_text at rows id of = ap (option_and_then (λ (r : Row). slice_get r.values 0)) of.first ∙ ap (λ (vs : List Text). slice_get vs 0) of.fits.one
 
 given_has : (id : Text) (rows : List Row) → is_given id rows ≡ true → has_row id rows ≡ true
@@ -115,7 +115,7 @@ one_value test (v ∷ w ∷ values) passes =
     let less : length (v ∷ w ∷ values) ≤ 1 = leb-true _ _ few.0 in
     absurd (omega arith)
 
-module _ (at : Address × Address) where
+module _ (at : Lease) where
   abbrev new_row : Rule → ValueSource → Text → Row
   new_row r source v = record { id = r.id; values = v ∷ []; count = None; source = Some source; reading = reading_by r }
 
@@ -224,14 +224,14 @@ module _ (at : Address × Address) where
       let job_text = rows.of_job.fits.text in
       let limit_text = rows.of_limit.fits.text in
       let size_text = rows.of_size.fits.text in
-      let named : job_named job_text ≡ Some Compute =
+      let named : (job : Job) × (job_named job_text ≡ Some job) =
       named_job (lent at) job_text refl (accepts-Accepts false (Names (lent at)) job_text (rows.of_job.fits.job_fits rows.of_job.named)) in (
-        record { job = Compute; limit = digits_value 10 (without_leading_plus limit_text); size = digits_value 10 (without_leading_plus size_text) },
+        record { job = named.0; limit = digits_value 10 (without_leading_plus limit_text); size = digits_value 10 (without_leading_plus size_text) },
         record {
           names = lent at;
           jobs = refl;
           no_fault = no_fault (fault_of (command_of (lent at)) words) (taken_where at words ∙ taken);
-          job = (job_text, first_text at (matches_of (command_of (lent at)) words) (codes "job") rows.of_job, named);
+          job = (job_text, first_text at (matches_of (command_of (lent at)) words) (codes "job") rows.of_job, named.1);
           limit = number_given words (codes "limit") 32768 rows.of_limit (accepts-Accepts false (Unsigned 1 32768) limit_text (rows.of_limit.fits.limit_fits rows.of_limit.named));
           size = number_given words (codes "size") 4096 rows.of_size (accepts-Accepts false (Unsigned 1 4096) size_text (rows.of_size.fits.size_fits rows.of_size.named));
         },

@@ -26,7 +26,8 @@ use Rattle.clap.proofs.OnLiterals.{clap_on_literals}
 use Rattle.cv_words.proofs.Entries.{TakesOne, accepted_text, found_entry}
 use Rattle.cv_words.specs.Command.{Choices, HasJobs, command_of, job_rule, limit_rule, size_rule}
 use Rattle.cv_words.specs.Words.{IsGiven, MayGiveJob, MayGiveNumber, job_named}
-use Rattle.cv_words.specs.declared.words.Job.TheVariants.{Compute}
+use Rattle.cv_words.specs.declared.words.Job.{Job}
+use Rattle.cv_words.specs.declared.words.Job.TheVariants.{Compute, Reify, Gen}
 
 -- the three elements of a list, as f sees them
 record Three {X Y : Type 0} (f : X → Y) (xs : List X) (r s t : Y) : Type 0 where
@@ -229,13 +230,19 @@ option_given c m p k a r id most plain arg takes is_id some =
     }
 
 -- a name among those of the jobs is a job's
-pub named_job : (names : Choices) (t : Text) → HasJobs names → Accepts false (Names names) t → job_named t ≡ Some Compute
-named_job names t jobs accepted =
-    let test = list_any-map (λ (n : Text). bytes_eq n t) (λ (n : Bor Text). n.now) names.now in
-    let one : bytes_eq (codes "compute") t || false ≡ true =
-    ap (list_any (λ (n : Text). bytes_eq n t)) (sym jobs) ∙ sym test ∙ accepted in
-    let same : codes "compute" ≡ t = (bytes_eq-Decides (codes "compute") t).0 (grind arith) in
-    subst (λ (u : Text). job_named u ≡ Some Compute) same refl
+pub named_job : (names : Choices) (t : Text) → HasJobs names → Accepts false (Names names) t → (job : Job) × (job_named t ≡ Some job)
+named_job names t jobs accepted = among (bytes_eq (codes "compute") t) (bytes_eq (codes "reify") t) (bytes_eq (codes "gen") t) refl refl refl
+    (ap (list_any (λ (n : Text). bytes_eq n t)) (sym jobs) ∙ sym (list_any-map (λ (n : Text). bytes_eq n t) (λ (n : Bor Text). n.now) names.now) ∙ accepted)
+  where
+    is : (name : Text) (job : Job) → job_named name ≡ Some job → bytes_eq name t ≡ true → (job : Job) × (job_named t ≡ Some job)
+    is name job named same = (job, subst (λ (u : Text). job_named u ≡ Some job) ((bytes_eq-Decides name t).0 same) named)
+
+    among : (a b c : Bool) → bytes_eq (codes "compute") t ≡ a → bytes_eq (codes "reify") t ≡ b → bytes_eq (codes "gen") t ≡ c
+        → bytes_eq (codes "compute") t || (bytes_eq (codes "reify") t || (bytes_eq (codes "gen") t || false)) ≡ true → (job : Job) × (job_named t ≡ Some job)
+    among true b c first second third one = is (codes "compute") Compute refl first
+    among false true c first second third one = is (codes "reify") Reify refl second
+    among false false true first second third one = is (codes "gen") Gen refl third
+    among false false false first second third one = absurd (let no : false ≡ true = sym (rw (first, second, third) refl) ∙ one in cc)
 
 job_given : (c : Command) (names : Choices) (m : ArgMatches) (p : IsParsedFrom c m) (a : Arg)
     → HasJobs names → app_of c ≡ command_of names → IsPlainCommand c → IsArgAt c 0 a (job_rule names) → TakesOne c 0 a (Names names)
@@ -247,14 +254,9 @@ job_given c names m p a jobs same plain arg takes =
     let entry = subst (λ (x : Arg). is_some (matched_of (found_of m) x.id.now) ≡ true) (arg.place a) (present_has_entry (found_of m) _ used) in
     let got = accepted_text c m p 0 a (Names names) takes (p.from.plain plain.plain).1 (p.parsed (p.from.globals ∙ plain.simple.globals)) entry in
     let cased : a.ignore_case ≡ false = ap (λ (x : Rule). x.ignore_case) arg.is in
-    let named : a.id.now ≡ codes "job" = ap (λ (x : Rule). x.id) arg.is in (
-      Compute,
-      (
-        got.0,
-        subst (λ (t : Text). first_value (found_of m) t ≡ Some got.0) named got.1,
-        named_job names got.0 jobs (subst (λ (b : Bool). Accepts b (Names names) got.0) cased got.2),
-      ),
-    )
+    let named : a.id.now ≡ codes "job" = ap (λ (x : Rule). x.id) arg.is in
+    let job = named_job names got.0 jobs (subst (λ (b : Bool). Accepts b (Names names) got.0) cased got.2) in
+    (job.0, (got.0, subst (λ (t : Text). first_value (found_of m) t ≡ Some got.0) named got.1, job.1))
 
 -- each argument has a text that its parser takes
 pub given : (c : Command) (names : Choices) (m : ArgMatches) → HasJobs names → app_of c ≡ command_of names → IsParsedFrom c m

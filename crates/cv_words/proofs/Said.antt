@@ -7,12 +7,12 @@ use Rattle.cv_words.specs.declared.words.Job.{Job}
 use Rattle.cv_words.specs.declared.words.Words.{Words}
 use Rattle.cv_words.proofs.Faulted.{fault_same}
 use Rattle.cv_words.proofs.Fitting.{taken_has_words}
-use Rattle.cv_words.proofs.Lent.{Address, all_are_lent, lent}
+use Rattle.cv_words.proofs.Lent.{Lease, all_are_lent, lent}
 use Rattle.cv_words.proofs.Taken.{has_fault, is_fault, is_faultless, taken_where}
 use Rattle.cv_words.proofs.Walked.{matches_same}
 
 -- what is the same for any two addresses is the same for any two lists
-alike : {X : Type 0} (f : Choices → X) → ((one two : Address × Address) → f (lent one) ≡ f (lent two)) → (names others : Choices) → HasJobs names → HasJobs others → f names ≡ f others
+alike : {X : Type 0} (f : Choices → X) → ((one two : Lease) → f (lent one) ≡ f (lent two)) → (names others : Choices) → HasJobs names → HasJobs others → f names ≡ f others
 alike f same names others jobs other_jobs =
     all_are_lent (λ n. f n ≡ f others) (λ one. all_are_lent (λ n. f (lent one) ≡ f n) (λ two. same one two) others other_jobs) names jobs
 
@@ -88,8 +88,8 @@ module _ (words : List Text) where
   refused_or_read = go (takes (command_of names) words) refl
     where
       names : Choices
-      names = lent ((0, 0), (0, 0))
+      names = lent ((0, 0), (λ _. (0, 0)))
 
       go : (taken : Bool) → takes (command_of names) words ≡ taken → IsRefused words ⊎ ((read : Words) × HasWords words read)
-      go true taken = inr (taken_has_words ((0, 0), (0, 0)) words taken)
+      go true taken = inr (taken_has_words ((0, 0), (λ _. (0, 0))) words taken)
       go false not_taken = inl (refused_by names refl not_taken)

@@ -20,7 +20,7 @@ use Rattle.clap.specs.declared.error.kind.ErrorKind.TheVariants.{ArgumentConflic
 use Rattle.clap.proofs.OnLiterals.{clap_on_literals}
 use Rattle.cv_words.specs.Command.{command_of}
 use Rattle.cv_words.proofs.Faulted.{fault_at}
-use Rattle.cv_words.proofs.Lent.{Address, job, lent, limit, shape, size}
+use Rattle.cv_words.proofs.Lent.{Lease, job, lent, limit, shape, size}
 
 abbrev pub is_faultless : Kinds → Bool
 is_faultless [] = true
@@ -229,7 +229,7 @@ required : (given : Bool) → is_faultless (if not given || false then MissingRe
 required true = refl
 required false = refl
 
-module _ (at : Address × Address) where
+module _ (at : Lease) where
   abbrev s : Shape
   s = shape (lent at)
 

@@ -7,9 +7,9 @@ use Rattle.clap.specs.Lexer.{long_of, short_of}
 use Rattle.clap.specs.Simple.{matches_of}
 use Rattle.clap.specs.Walk.{Held, Outcome, done, waits, plain, refused, Rule, Step, next, trailing, subcommand, value, Text, Waiting, idle, option, positional, Walk, after_flag, after_step, arg_by_index, arg_by_long, arg_by_short, attached_value, bundle, bundle_met, bundle_step, finished, flag_met, is_multiple, is_pending, long_met, long_or_other, next_position, nothing_held, option_met, option_word, plain_word, pushed, reacted, settled, settled_rows, short_met, short_or_plain, subcommand_met, subcommand_or_other, takes_several, takes_values, to_positional, used, used_by_id, walk, walk_from, walked, walked_from, with_default, word_met}
 use Rattle.cv_words.specs.Command.{command_of}
-use Rattle.cv_words.proofs.Lent.{Address, found, lent, rules}
+use Rattle.cv_words.proofs.Lent.{Lease, found, lent, rules}
 
-module _ (one two : Address × Address) where
+module _ (one two : Lease) where
   abbrev a : List Rule
   a = rules (lent one)
 

@@ -11,8 +11,12 @@ abbrev pub Choices : Type 0
 Choices = Bor (List (Bor Text))
 
 -- the names of the jobs
+abbrev pub job_names : List Text
+job_names = codes "compute" ∷ codes "reify" ∷ codes "gen" ∷ []
+
+-- the list is that of the names of the jobs
 abbrev pub HasJobs : Choices → Type 0
-HasJobs names = map (λ name. name.now) names.now ≡ codes "compute" ∷ []
+HasJobs names = map (λ name. name.now) names.now ≡ job_names
 
 -- a word that is one of the names
 abbrev pub job_rule : Choices → Rule

@@ -7,7 +7,7 @@ use Rattle.clap.specs.Words.{IsUnsignedIn, Text, fault_of, first_of, first_value
 use Rattle.clap.specs.declared.parser.matches.Found.{Found}
 use Rattle.cv_words.specs.Command.{Choices, HasJobs, command_of}
 use Rattle.cv_words.specs.declared.words.Job.{Job}
-use Rattle.cv_words.specs.declared.words.Job.TheVariants.{Compute}
+use Rattle.cv_words.specs.declared.words.Job.TheVariants.{Compute, Reify, Gen}
 use Rattle.cv_words.specs.declared.words.Words.{Words}
 
 -- the words as texts
@@ -16,7 +16,10 @@ texts_of words = map string_bytes words
 
 -- the job of a name
 abbrev pub job_named : Text → Option Job
-job_named name = if bytes_eq name (codes "compute") then Some Compute else None
+job_named name =
+    if bytes_eq name (codes "compute") then Some Compute
+    else (if bytes_eq name (codes "reify") then Some Reify
+    else (if bytes_eq name (codes "gen") then Some Gen else None))
 
 -- The command doesn't take the words: clap's definition of a line that it takes doesn't hold, and it finds a fault in them.
 pub record IsRefused (words : List Text) : Type 0 where

@@ -10,7 +10,7 @@ use clap::ArgMatches;
 use clap::error::ErrorKind;
 use std::alloc::Global;
 
-static JOBS: [&str; 1] = ["compute"];
+static JOBS: [&str; 3] = ["compute", "reify", "gen"];
 
 /// The job and the numbers of the options, by clap's definition of what the words match. Unless memory runs out, `Refused`
 /// comes exactly where clap finds a fault in the words, which is where its definition of a line that the command takes doesn't

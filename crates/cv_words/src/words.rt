@@ -6,8 +6,12 @@ ghost use Rattle.cv_words.specs.Words.{job_named};
 /// What the program is asked to do.
 #[derive(Clone, Copy, Debug, PartialEq, Eq)]
 pub enum Job {
-    /// Writes the values of the custom properties that are shown.
+    /// Writes the values of the properties that are shown.
     Compute,
+    /// Writes the objects of Typed OM for the declarations and the values of the properties that are shown.
+    Reify,
+    /// Computes a generated document, and writes its summary.
+    Gen,
 }
 
 /// The job, and the numbers of the options.
@@ -36,6 +40,8 @@ impl Job {
     {
         match name {
             "compute" => Some(Job::Compute),
+            "reify" => Some(Job::Reify),
+            "gen" => Some(Job::Gen),
             _ => None,
         }
     }

@@ -1,6 +1,6 @@
 use Rattle.std.proofs.Common.{rules, map, IsPermutation, IsSortedBy, subst}
 use Rattle.std.proofs.lemmas.List.Sorted.{answers_always}
-use Rattle.cv_element.specs.Element.{IsByName}
+use Rattle.cv_spec_valuation.specs.Computed.{IsByName}
 use Rattle.cv_element.specs.FaultNames.{named}
 use Rattle.cv_element.proofs.Sorting.{before, before_ranks, same, ordered, answered}
 use Rattle.cv_element.proofs.faults.by_name.Goals as goal

@@ -1,10 +1,11 @@
-use Rattle.std.proofs.Common.{◌≡◌, ◌∙◌, ◌+◌, ◌++◌, ◌∷◌, [], length, take, ap, sym, arith}
+use Rattle.std.proofs.Common.{◌≡◌, ◌∙◌, ◌+◌, ◌++◌, ◌∷◌, [], length, take, map, ap, sym, arith}
 use Rattle.std.proofs.lemmas.List.{take_more, length-take-le}
+use Rattle.cv_component.specs.Shared.{piece_of}
 use Rattle.cv_props.specs.declared.note.NotePlace.TheVariants.{Item}
-use Rattle.cv_props.specs.Kept.{kept_declarations, note_on, notes_on}
+use Rattle.cv_props.specs.Kept.{note_on, notes_on}
 use Rattle.cv_props.specs.Reading.{with_item}
 use Rattle.cv_props.specs.Winners.{winners}
-use Rattle.cv_props.proofs.Items.{notes_on-item, winners-item}
+use Rattle.cv_props.proofs.Items.{notes_on-piece, winners-piece}
 use Rattle.cv_props.proofs.style.of_items.Goals as goal
 
 pub loop-number-init : goal.loop-number-init
@@ -21,10 +22,10 @@ loop-number-preserved c =
     let count : length (take number pieces) ≡ number = length-take-le number pieces (omega arith) in
     record {
       declarations = c.in_ok-read_into.ensures.declarations
-          ∙ ap (λ w. with_item w piece) c.loop-number.invariant.declarations
-          ∙ sym (ap (λ l. winners (kept_declarations l)) next ∙ winners-item (take number pieces) piece);
+          ∙ ap (λ w. with_item w (piece_of piece)) c.loop-number.invariant.declarations
+          ∙ sym (winners-piece (take number pieces) (take (number + 1) pieces) piece next);
       notes = c.in_ok-read_into.ensures.notes
-          ∙ ap (λ l. l ++ note_on (Item c.args.element number) piece) c.loop-number.invariant.notes
-          ∙ sym (ap (notes_on c.args.element) next ∙ notes_on-item c.args.element (take number pieces) piece
-          ∙ ap (λ n. notes_on c.args.element (take number pieces) ++ note_on (Item c.args.element n) piece) count);
+          ∙ ap (λ l. l ++ note_on (Item c.args.element number) (piece_of piece)) c.loop-number.invariant.notes
+          ∙ sym (notes_on-piece c.args.element (take number pieces) (take (number + 1) pieces) piece next
+          ∙ ap (λ n. notes_on c.args.element (map piece_of (take number pieces)) ++ note_on (Item c.args.element n) (piece_of piece)) count);
     }

@@ -1,7 +1,7 @@
 use Rattle.std.proofs.Common.{◌∙◌, ap, sym}
 use Rattle.indexmap.specs.IndexMap.{insert_entry}
 use Rattle.indexmap.proofs.CallerLemmas.{insert_entry-new}
-use Rattle.cv_props.specs.Keys.{same_key}
+use Rattle.cv_valuation.specs.Keys.{same_key}
 use Rattle.cv_report.specs.Report.{cause_of}
 use Rattle.cv_report.proofs.Finding.{cause_of-again, none_found}
 use Rattle.cv_report.proofs.causes.add.Goals as goal

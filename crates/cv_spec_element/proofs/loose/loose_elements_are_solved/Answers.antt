@@ -19,4 +19,4 @@ pub returns-clause-declared : goal.returns-clause-declared
 returns-clause-declared g c = λ e values p cause invalid. invalid_declared e values p cause invalid
 
 pub returns-clause-cycles : goal.returns-clause-cycles
-returns-clause-cycles g c = λ e name rows numbering i below. number_cyclic e name rows numbering i below
+returns-clause-cycles g c = λ e name rows laws numbering i below. number_cyclic e name rows numbering laws.named i below

@@ -1,6 +1,6 @@
 use Rattle.std.proofs.Common.{sym, subst}
 use Rattle.std.specs.Prelude.{All}
-use Rattle.cv_props.specs.Keys.{same_key}
+use Rattle.cv_valuation.specs.Keys.{same_key}
 use Rattle.cv_props.specs.Declaring.{IsDeclaredEntry}
 use Rattle.cv_props.proofs.Entries.{All-remove_entry}
 use Rattle.cv_props.proofs.decls.Decls.remove.Goals as goal

@@ -1,5 +1,5 @@
 use Rattle.std.proofs.Common.{◌≡◌, take}
-use Rattle.cv_props.specs.declared.key.Key.{Key}
+use Rattle.cv_valuation.specs.declared.key.Key.{Key}
 use Rattle.cv_report.specs.Report.{cause_of}
 use Rattle.cv_report.proofs.causes.Causes.of.Given as goal
 

@@ -1,0 +1,42 @@
+-- Rows of numbers that each stand once.
+use Rattle.std.proofs.Common.{◌≡◌, ◌≢◌, ℕ, ◌+◌, ◌<◌, ◌≤◌, Bool, true, false, List, [], ◌∷◌, ◌++◌, length, get_or, inl, inr, refl, sym, ◌∙◌, ap, subst, arith}
+use Rattle.std.specs.Prelude.{Contains, eqb}
+use Rattle.std.specs.List.{IsDistinct, list_any}
+use Rattle.std.proofs.lemmas.Bool.{eqb-true}
+use Rattle.std.proofs.lemmas.Bool.Decides.{Decides-eqb}
+use Rattle.std.proofs.lemmas.Cmp.{nat_eq_equiv}
+use Rattle.std.proofs.lemmas.List.{length_push}
+use Rattle.std.proofs.lemmas.List.Elements.{Contains-push_cases}
+use Rattle.std.proofs.lemmas.Map.Keys.{IsDistinct-push}
+use Rattle.std.proofs.lemmas.Map.Made.{AllPairs-from_IsDistinct}
+use Rattle.std.proofs.lemmas.Map.Steps.{length-le_from_distinct_below}
+use Rattle.std.proofs.lemmas.Map.Views.{Contains-from_any}
+
+module _ (row : List ℕ) (to : ℕ) (once : IsDistinct eqb row) (new : ¬ Contains row to) where
+  absent : list_any (eqb to) row ≡ false
+  absent = by (list_any (eqb to) row) refl
+    where
+      by : (b : Bool) → list_any (eqb to) row ≡ b → list_any (eqb to) row ≡ false
+      by true is = absurd (new (Contains-from_any eqb-true to row is))
+      by false is = is
+
+  pub once-push : IsDistinct eqb (row ++ to ∷ [])
+  once-push = IsDistinct-push nat_eq_equiv row to once absent
+
+  pub has_room : (n : ℕ) → ((x : ℕ) → Contains row x → x < n) → to < n → length row < n
+  has_room n below within = omega (arith, length_push row to, length-le_from_distinct_below (row ++ to ∷ []) n once-push all_below)
+    where
+      all_below : (q : ℕ) → list_any (eqb q) (row ++ to ∷ []) ≡ true → q < n
+      all_below q has =
+          elim (Contains-push_cases row to q (Contains-from_any eqb-true q (row ++ to ∷ []) has)) [
+            | inl old ↦ below q old
+            | inr same ↦ subst (λ x. x < n) same within
+          ]
+
+pub once-none : IsDistinct eqb []
+unfolding IsDistinct
+once-none = tt
+
+-- what stands at two places differs
+pub apart : (row : List ℕ) → IsDistinct eqb row → (i j : ℕ) → i < j → j < length row → get_or row i 0 ≢ get_or row j 0
+apart row once i j lower below same = let pairs = AllPairs-from_IsDistinct Decides-eqb row once in pairs i j 0 lower below same

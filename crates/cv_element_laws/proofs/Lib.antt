@@ -1,0 +1,13 @@
+pub mod Reading
+pub mod Filling
+pub mod Ranking
+pub mod Telling
+pub mod Existing
+pub mod Single
+pub mod Pieces
+pub mod Substituted
+pub mod Along
+pub mod Standing
+pub mod Runs
+pub mod Items
+pub mod Styles

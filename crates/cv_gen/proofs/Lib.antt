@@ -1,0 +1,4 @@
+mod Texts
+mod Kept
+mod Sums
+mod Small

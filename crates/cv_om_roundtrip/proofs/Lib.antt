@@ -1,0 +1,15 @@
+pub mod Back
+pub mod FigureSteps
+pub mod Given
+pub mod Hints
+pub mod InBounds
+pub mod Judged
+pub mod Marks
+pub mod Nodes
+pub mod Numbers
+pub mod Pieces
+pub mod Printed
+pub mod Rows
+pub mod Sames
+pub mod Shown
+pub mod Sound

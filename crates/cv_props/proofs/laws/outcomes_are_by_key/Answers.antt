@@ -1,5 +1,0 @@
-use Rattle.cv_props.proofs.Outcomes as outcomes
-use Rattle.cv_props.proofs.laws.outcomes_are_by_key.Goals as goal
-
-pub returns : goal.returns
-returns c = outcomes.outcomes_are_by_key

@@ -1,0 +1,4 @@
+pub mod Colors
+pub mod Kept
+pub mod NoFit
+pub mod Numbers

@@ -1,4 +1,0 @@
-use Rattle.cv_run.proofs.tree.Computing.computed_under.Given as goal
-
-abbrev pub ghosts-computed_counting : goal.ghosts-computed_counting
-ghosts-computed_counting a = record { name = a.blank.name; parts = a.blank.parts }

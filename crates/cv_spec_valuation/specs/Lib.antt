@@ -1,0 +1,5 @@
+pub mod Registered
+pub mod Contexts
+pub mod Element
+pub mod Computed
+pub mod Single

@@ -1,0 +1,65 @@
+//! The styles of a document's elements: their declarations, and what is ignored in them.
+
+ghost use Rattle.std.specs.Prelude.{◌≡◌, ◌≤◌, ◌++◌, All, IfOk, OnOk, length, map};
+ghost use Rattle.cv_spec_text.specs.Splits.{IsSpelt};
+ghost use Rattle.cv_tree.specs.Contents.{most_bytes};
+ghost use Rattle.cv_tree.specs.Styles.{declarations_in, declarations_of, elements_notes, items_in, tokens_in};
+ghost use Rattle.cv_tree.specs.Contents.{AreFew};
+ghost use Rattle.cv_props.specs.Kept.{notes_on};
+
+use cv_doc::Elem;
+use cv_props::{Decls, Note};
+use cv_spec_text::{Name, Token};
+use cv_token::tokenise;
+use std::alloc::{AllocError, Global};
+
+/// The tokens of a text, no more than its characters.
+pub fn tokens_in(alloc: Global, text: &Name) -> Result<Vec<Token>, AllocError>
+    ensures tokens { IfOk result (λ all. all.items ≡ tokens_in text.now) }
+    ensures spelt { IfOk result (λ all. All IsSpelt all.items) }
+    ensures few { IfOk result (λ all. length all.items ≤ length text.now) }
+{
+    tokenise(alloc, text.text())
+}
+
+/// The declarations of each element, and the notes on what is ignored behind those that are there.
+#[tactic(auto, using(crate::proofs::Stepping::notes_next))]
+pub fn declarations_of(
+    alloc: Global,
+    elements: &[Elem],
+    notes: &mut Vec<Note>,
+) -> Result<Vec<Decls>, AllocError>
+    requires count { length elements.now ≤ 16384 }
+    requires short { All (λ element. length element.style ≤ most_bytes) elements.now }
+    ensures declarations { IfOk result (λ all. all.items ≡ map declarations_of elements.now) }
+    ensures few { IfOk result (λ all. All AreFew all.items) }
+    ensures notes { OnOk result (notes.new.items ≡ notes.old.items ++ elements_notes 0 elements.now) }
+{
+    let mut all = Vec::new(alloc);
+    let mut rest = elements;
+    let mut number = 0u32;
+    while let Some((element, after)) = rest.split_first() {
+        all.push(declarations_in(alloc, number, &element.style, notes)?)?;
+        number += 1;
+        rest = after;
+    }
+    Ok(all)
+}
+
+// The declarations of the element with this number.
+fn declarations_in(
+    alloc: Global,
+    number: u32,
+    style: &Name,
+    notes: &mut Vec<Note>,
+) -> Result<Decls, AllocError>
+    requires { length style.now ≤ most_bytes }
+    ensures declarations { IfOk result (λ declarations. declarations ≡ declarations_in style.now) }
+    ensures few { IfOk result AreFew }
+    ensures notes { OnOk result (notes.new.items ≡ notes.old.items ++ notes_on number (items_in style.now)) }
+{
+    let tokens = tokens_in(alloc, style)?;
+    let (declarations, mut more) = Decls::of_style(alloc, number, &tokens)?;
+    notes.append(&mut more)?;
+    Ok(declarations)
+}

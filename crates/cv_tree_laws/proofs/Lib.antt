@@ -1,0 +1,5 @@
+pub mod Existing
+mod Entries
+mod Rules
+mod Sheets
+mod Documents

@@ -1,0 +1,9 @@
+pub mod Alike
+pub mod Differences
+pub mod Naming
+pub mod Next
+pub mod Putting
+pub mod Subtrees
+pub mod Texts
+pub mod Walked
+pub mod Written

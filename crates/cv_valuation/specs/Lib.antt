@@ -1,0 +1,9 @@
+pub mod Keys
+pub mod KeyLaws
+pub mod TableLaws
+pub mod Kept
+pub mod Valuations
+pub mod ValuationLaws
+pub mod Tries
+pub mod Rows
+pub mod Starts
