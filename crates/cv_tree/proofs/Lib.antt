@@ -1,3 +1,4 @@
+pub mod Again
 pub mod Documents
 pub mod Growing
 pub mod Naming

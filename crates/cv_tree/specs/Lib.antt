@@ -1,3 +1,4 @@
+pub mod Again
 pub mod Contents
 pub mod Names
 pub mod Single
