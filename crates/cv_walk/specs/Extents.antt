@@ -1,9 +1,9 @@
 -- Where the elements of a tree end (this project's own).
-use Rattle.std.specs.Prelude.{ℕ, ◌≡◌, ◌+◌, ◌<◌, ◌≤◌, true, List, [], length, Some, slice_index}
+use Rattle.std.specs.Prelude.{ℕ, ◌≡◌, ◌+◌, ◌<◌, ◌≤◌, true, List, [], length, Option, Some, None, nat_lt, slice_index, slice_set, if◌then◌else◌}
 use Rattle.std.specs.List.{slice_get}
 use Rattle.cv_doc.specs.declared.elements.Elem.{Elem}
 use Rattle.cv_walk.specs.Subtrees.{marks}
-use Rattle.cv_walk.specs.declared.extents.Extents.{Extents}
+use Rattle.cv_walk.specs.declared.extent.Extents.{Extents}
 
 -- the element with index i is the one with index start, or a descendant of it
 abbrev pub IsIn : List Elem → ℕ → ℕ → Type 0
@@ -20,3 +20,8 @@ pub record EndsAt (elements : List Elem) (start end : ℕ) : Type 0 where
 pub record AreExtents (elements : List Elem) (extents : Extents) : Type 0 where
   pub count : length extents.ends.items ≡ length elements
   pub ends : (i : ℕ) → i < length elements → EndsAt elements i (slice_index extents.ends.items i)
+
+-- the ends, where an element has this parent: its parent ends no earlier
+abbrev pub raised : List ℕ → ℕ → Option ℕ → List ℕ
+raised ends i None = ends
+raised ends i (Some parent) = if nat_lt (slice_index ends parent) (slice_index ends i) then slice_set ends parent (slice_index ends i) else ends

@@ -1,12 +1,12 @@
 //! A walk over an element and its descendants.
 
-ghost use Rattle.std.specs.Prelude.{◌≤◌, ◌+◌, ◌<◌, length, vec_len};
+ghost use Rattle.std.specs.Prelude.{◌≡◌, ◌≤◌, ◌+◌, ◌<◌, length, vec_len};
 ghost use Rattle.cv_doc.specs.Kept.{IsTree};
 ghost use Rattle.cv_walk.specs.Extents.{AreExtents};
 ghost use Rattle.cv_walk.specs.Subtrees.{stepped, subtree};
 ghost use Rattle.cv_walk.specs.Walks.{AreReadyOver, ReachesOver, Walked};
 
-use crate::extents::Extents;
+use crate::extent::Extents;
 use crate::marks::marked;
 use cv_doc::{Elem, Step};
 use std::alloc::Global;
@@ -48,7 +48,7 @@ pub fn walk_from<S: Step>(
 }
 
 // The elements before the end of the one with this index.
-fn up_to(elements: &[Elem], extents: &Extents, start: u32) -> &[Elem]
+fn up_to<'a>(elements: &'a [Elem], extents: &Extents, start: u32) -> &'a [Elem]
     requires there { start < length elements.now }
     requires extents { AreExtents elements.now extents.now }
     ensures there { start < length result.now }
