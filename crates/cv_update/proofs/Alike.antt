@@ -10,18 +10,10 @@ use Rattle.cv_props.specs.Winners.{Declarations}
 use Rattle.cv_spec_valuation.specs.declared.place.Place.{Place}
 use Rattle.cv_spec_valuation.specs.Computed.{IsComputed}
 use Rattle.cv_spec_valuation.specs.Contexts.{size_above}
+use Rattle.cv_walk.proofs.Inside.{get_front}
 use Rattle.cv_tree.specs.Tree.{AreEarlier, Tree, StandsAt, AreComputed, IsOfElement, parent_in, place_in, root_size, values_in}
 
 -- ---- lists
-
-pub get_front : {X : Type 0} (xs ys : List X) (i : ℕ) → i < length xs → slice_get (xs ++ ys) i ≡ slice_get xs i
-get_front [] ys i lt = absurd (omega (arith, lt))
-get_front (x ∷ xs) ys zero lt = refl
-get_front (x ∷ xs) ys (suc i) lt = get_front xs ys i (omega (arith, lt))
-
-pub get_last : {X : Type 0} (xs : List X) (x : X) (ys : List X) → slice_get (xs ++ x ∷ ys) (length xs) ≡ Some x
-get_last [] x ys = refl
-get_last (z ∷ xs) x ys = get_last xs x ys
 
 -- an item of a list with one more is an item of the list, or the last
 pub front_or_last : {X : Type 0} (xs : List X) (x : X) (i : ℕ) (y : X) → slice_get (xs ++ x ∷ []) i ≡ Some y

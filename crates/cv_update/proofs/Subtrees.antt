@@ -8,41 +8,16 @@ use Rattle.cv_doc.specs.declared.elements.Elem.{Elem}
 use Rattle.cv_doc.specs.Kept.{IsParentOf}
 use Rattle.cv_tree.specs.Tree.{AreEarlier, parent_of}
 use Rattle.cv_walk.specs.Subtrees.{is_marked, is_stepped, mark_at, marks}
-use Rattle.cv_update.proofs.Alike.{get_front, get_last}
-
-pub length_marks : (start : ℕ) (known : List Bool) (es : List Elem) → length (marks start known es) ≡ length known + length es
-length_marks start known [] = omega arith
-length_marks start known (e ∷ es) = omega (arith, length_marks start (known ++ is_stepped start known e.parent ∷ []) es, length-append known (is_stepped start known e.parent ∷ []))
-
--- what is known stays
-marks_front : (start : ℕ) (known : List Bool) (es : List Elem) (j : ℕ) → j < length known → slice_get (marks start known es) j ≡ slice_get known j
-marks_front start known [] j lt = refl
-marks_front start known (e ∷ es) j lt =
-    marks_front start (known ++ is_stepped start known e.parent ∷ []) es j (omega (arith, lt, length-append known (is_stepped start known e.parent ∷ [])))
-    ∙ get_front known (is_stepped start known e.parent ∷ []) j lt
-
-marks_here : (start : ℕ) (known : List Bool) (e : Elem) (es : List Elem) → slice_get (marks start known (e ∷ es)) (length known) ≡ Some (is_stepped start known e.parent)
-marks_here start known e es =
-    marks_front start (known ++ is_stepped start known e.parent ∷ []) es (length known) (omega (arith, length-append known (is_stepped start known e.parent ∷ [])))
-    ∙ get_last known (is_stepped start known e.parent) []
+use Rattle.cv_walk.proofs.Inside.{length_marks, marked_known, marks_front, marks_here}
 
 neither : (a b : Bool) → (a || b) ≡ false → (a ≡ false) × (b ≡ false)
 neither true b is = cc
 neither false b is = (refl, is)
 
-one_of : (a b : Bool) → (a || b) ≡ true → (a ≡ true) ⊎ (b ≡ true)
-one_of true b is = inl refl
-one_of false b is = inr is
-
 some_false : (xs : List Bool) (i : ℕ) → i < length xs → mark_at (slice_get xs i) ≡ false → slice_get xs i ≡ Some false
 some_false [] i lt is = absurd (omega (arith, lt))
 some_false (x ∷ xs) zero lt is = ap Some is
 some_false (x ∷ xs) (suc i) lt is = some_false xs i (omega (arith, lt)) is
-
-some_true : (xs : List Bool) (i : ℕ) → mark_at (slice_get xs i) ≡ true → slice_get xs i ≡ Some true
-some_true [] i is = cc
-some_true (x ∷ xs) zero is = ap Some is
-some_true (x ∷ xs) (suc i) is = some_true xs i is
 
 -- an element that isn't stepped isn't the first, and its parent isn't stepped
 unmarked_known : (start : ℕ) (known : List Bool) (es : List Elem) (k i : ℕ) (e : Elem) → slice_get es k ≡ Some e → i ≡ length known + k → slice_get (marks start known es) i ≡ Some false
@@ -66,33 +41,6 @@ unmarked_known start known (x ∷ es) zero i e at same is = (
     parts = neither (length known == start) (is_marked known x.parent) not_stepped
 unmarked_known start known (x ∷ es) (suc k) i e at same is =
     unmarked_known start (known ++ is_stepped start known x.parent ∷ []) es k i e at (omega (arith, same, length-append known (is_stepped start known x.parent ∷ []))) is
-
--- an element that is stepped is the first, or its parent is stepped
-marked_known : (start : ℕ) (known : List Bool) (es : List Elem) (k i : ℕ) (e : Elem) → slice_get es k ≡ Some e → i ≡ length known + k → slice_get (marks start known es) i ≡ Some true
-    → (i ≡ start) ⊎ ((p : ℕ) × (e.parent ≡ Some p) × (slice_get (marks start known es) p ≡ Some true))
-marked_known start known [] k i e at same is = cc
-marked_known start known (x ∷ es) zero i e at same is = by (one_of (length known == start) (is_marked known x.parent) stepped)
-  where
-    one : x ≡ e
-    one = let both : Some x ≡ Some e = at in cc
-
-    here : i ≡ length known
-    here = omega (arith, same)
-
-    stepped : is_stepped start known x.parent ≡ true
-    stepped = let both : Some (is_stepped start known x.parent) ≡ Some true = sym (marks_here start known x es) ∙ ap (slice_get (marks start known (x ∷ es))) (sym here) ∙ is in cc
-
-    below : (parent : Option ℕ) → is_marked known parent ≡ true → (p : ℕ) × (parent ≡ Some p) × (slice_get (marks start known (x ∷ es)) p ≡ Some true)
-    below None is = cc
-    below (Some p) is =
-        let known_true : slice_get known p ≡ Some true = some_true known p is in
-        (p, refl, marks_front start known (x ∷ es) p (slice_get_within known p true known_true) ∙ known_true)
-
-    by : ((length known == start) ≡ true) ⊎ (is_marked known x.parent ≡ true) → (i ≡ start) ⊎ ((p : ℕ) × (e.parent ≡ Some p) × (slice_get (marks start known (x ∷ es)) p ≡ Some true))
-    by (inl first) = inl (here ∙ eqb-true (length known) start first)
-    by (inr under) = let found = below x.parent under in inr (found.0, ap (λ (y : Elem). y.parent) (sym one) ∙ found.1, found.2)
-marked_known start known (x ∷ es) (suc k) i e at same is =
-    marked_known start (known ++ is_stepped start known x.parent ∷ []) es k i e at (omega (arith, same, length-append known (is_stepped start known x.parent ∷ []))) is
 
 module _ (start : ℕ) (elements : List Elem) (earlier : AreEarlier (map parent_of elements)) where
   parent_at : (i : ℕ) (e : Elem) → slice_get elements i ≡ Some e → IsParentOf i e.parent

@@ -20,15 +20,16 @@ use Rattle.cv_tree.specs.Contents.{AreFew}
 use Rattle.cv_tree.specs.Tree.{AllStand, AreComputed, IsOfElement, IsOutOfRange, StandsAt, parent_in, parent_of, place_in, root_size, values_in}
 use Rattle.cv_tree.specs.declared.tree.Stop.{Stop}
 use Rattle.cv_tree.specs.declared.tree.Stop.TheVariants as stop
+use Rattle.cv_walk.proofs.Inside.{get_last, length_marks}
 use Rattle.cv_walk.specs.Subtrees.{marks, stepped, subtree}
 use Rattle.cv_walk.specs.Walks.{AreReadyOver, ReachesOver}
 use Rattle.cv_update.specs.declared.renewal.Renewal.{Renewal}
 use Rattle.cv_update.specs.declared.renewing.Renewing.{Renewing}
 use Rattle.cv_update.specs.Renewed.{IsRenewable, IsWithin, declared_after, put_from, tree_after, tree_before, with_fresh}
 use Rattle.cv_update.specs.Walking.{IsNextOut, IsOneMore, IsReady, Stepped, place_for, values_now}
-use Rattle.cv_update.proofs.Alike.{element_alike, first_next, get_last}
+use Rattle.cv_update.proofs.Alike.{element_alike, first_next}
 use Rattle.cv_update.proofs.Putting.{length_put, put_none}
-use Rattle.cv_update.proofs.Subtrees.{length_marks, marked_from, unmarked_other, unmarked_parent, unmarked_root}
+use Rattle.cv_update.proofs.Subtrees.{marked_from, unmarked_other, unmarked_parent, unmarked_root}
 
 -- ---- lists
 

@@ -5,6 +5,7 @@ use Rattle.cv_valuation.specs.declared.computed.Computed.{Computed}
 use Rattle.cv_props.specs.Winners.{Declarations}
 use Rattle.cv_tree.specs.Contents.{AreFew}
 use Rattle.cv_tree.specs.Tree.{AllStand, AreComputed, IsTree, Tree, parent_of, the_tree}
+use Rattle.cv_walk.specs.Extents.{AreExtents}
 use Rattle.cv_update.specs.declared.fresh.Fresh.{Fresh}
 use Rattle.cv_update.specs.declared.renewal.Renewal.{Renewal}
 
@@ -43,6 +44,7 @@ pub record IsRenewable (r : Renewal) : Type 0 where
   pub least : 1 ≤ r.limit
   pub most : r.limit ≤ 32768
   pub few_elements : length r.elements.now.items ≤ 16384
+  pub extents : AreExtents r.elements.now.items r.extents.now
   pub tree : IsTree (tree_before r)
   pub few : All AreFew r.maps.now
   pub computed : AreComputed (tree_before r) r.limit (length r.elements.now.items) r.all.now

@@ -7,6 +7,7 @@ ghost use Rattle.cv_update.specs.Renewed.{declared_after};
 use cv_doc::Elem;
 use cv_map::PropertyMap;
 use cv_props::{Computed, Decls, Registry};
+use cv_walk::Extents;
 
 /// The elements of a tree, under a registry and in a viewport of this size; the declarations of each, and what was computed of it; and the
 /// declarations that the element with this index has from now on.
@@ -14,6 +15,8 @@ use cv_props::{Computed, Decls, Registry};
 pub struct Renewal<'a> {
     pub registry: &'a Registry,
     pub elements: &'a Vec<Elem>,
+    /// Where the elements end.
+    pub extents: &'a Extents,
     pub maps: &'a [PropertyMap],
     pub all: &'a [Computed],
     pub width: u32,

@@ -131,7 +131,13 @@ pub(crate) fn fresh_of(alloc: Global, renewal: &Renewal) -> Result<Fresh, Stop>
             all: Vec::new(alloc),
         },
     };
-    match walk_from(alloc, renewal.elements, renewal.at, &mut renewing) {
+    match walk_from(
+        alloc,
+        renewal.elements,
+        renewal.extents,
+        renewal.at,
+        &mut renewing,
+    ) {
         Ok(()) => Ok(renewing.fresh),
         Err(WalkErr::Stop(stop)) => Err(stop),
         Err(WalkErr::Memory) => Err(Stop::Memory),

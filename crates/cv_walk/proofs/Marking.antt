@@ -79,7 +79,7 @@ stepped_none i zero (e ∷ es) = refl
 stepped_none i (suc n) [] = refl
 stepped_none i (suc n) (e ∷ es) = stepped_none (i + 1) n es
 
-stepped_before : (i n : ℕ) (es : List Elem) (xs : List Bool) → stepped i es (xs ++ unmarked n) ≡ stepped i es xs
+pub stepped_before : (i n : ℕ) (es : List Elem) (xs : List Bool) → stepped i es (xs ++ unmarked n) ≡ stepped i es xs
 stepped_before i n [] xs = refl
 stepped_before i n (e ∷ es) [] = stepped_none i n (e ∷ es)
 stepped_before i n (e ∷ es) (true ∷ xs) = ap (λ rest. (i, e.parent) ∷ rest) (stepped_before (i + 1) n es xs)

@@ -1,3 +1,4 @@
+pub mod Extents
 pub mod Marked
 pub mod Subtrees
 pub mod Walks
