@@ -10,3 +10,5 @@ mod Registering
 mod Syntaxes
 mod Universal
 mod Few
+mod Sameness
+mod Inheriting

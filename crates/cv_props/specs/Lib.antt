@@ -6,3 +6,4 @@ pub mod Kept
 pub mod Declaring
 pub mod Reading
 pub mod Sheets
+pub mod Remembered

@@ -6,6 +6,7 @@ mod descriptors;
 mod entry;
 mod initial;
 mod laws;
+mod memo;
 mod note;
 mod refusal;
 mod registration;

@@ -13,27 +13,33 @@ ghost use Rattle.cv_valuation.specs.declared.key.Key as keys;
 ghost use Rattle.cv_valuation.specs.Starts.{table_initial};
 ghost use Rattle.cv_valuation.specs.Valuations.{outcome_at};
 ghost use Rattle.cv_props.specs.Registration.{registration, viewport};
+ghost use Rattle.cv_props.specs.Remembered.{IsMet, IsValueOf, takes_inherited};
 ghost use Rattle.cv_props.specs.Sheets.{ignored, notes_on_rules, registered, registered_names, registry_of, with_registration};
 
 use crate::entry::Entry;
+use crate::memo::{Memo, is_worthwhile};
 use crate::note::{Note, NotePlace};
 use crate::refusal::Refusal;
 use crate::registration::{read_rule, viewport};
 use cv_calc::Context;
 use cv_component::{Rule, rules};
-use cv_spec_text::{Name, Token};
+use cv_property::Property;
+use cv_spec_text::{Name, Run, Token};
 use cv_valuation::Valuation;
+use cv_value::Typed;
 use indexmap::IndexMap;
 use std::alloc::{AllocError, Global};
+use std::cell::Cell;
 use std::marker::Model;
 
 /// The registered custom properties, in the order in which their names were first registered (Properties and Values API 1, "The
 /// @property Rule"), beside the initial values of the ordinary ones. Contracts see the list of names and entries, in which each name
-/// stands once.
+/// stands once. Computed values of ordinary properties are remembered beside them, which contracts don't see.
 #[derive(Drop)]
 pub struct Registry {
     entries: IndexMap<Name, Entry>,
     table: Valuation,
+    memo: Cell<Option<Memo>>,
 }
 
 impl Model for Registry {
@@ -113,8 +119,71 @@ impl Registry {
         Ok(Registry {
             entries: copied(&self.entries)?,
             table: self.table.copy()?,
+            memo: Cell::new(None),
         })
     }
+
+    /// What the list is as a value of the property in this context, if it is remembered.
+    pub fn remembered(
+        &self,
+        alloc: Global,
+        property: Property,
+        tokens: &[Token],
+        x: &Context,
+    ) -> Result<Option<Typed>, AllocError>
+        ensures { IfOk result (λ found. IfSome found (IsValueOf property x.now tokens.now)) }
+    {
+        let memo = self.memo.take();
+        let found = value_in(alloc, &memo, property, tokens, x);
+        self.memo.set(memo);
+        found
+    }
+
+    /// Remembers what the list is as a value of the property in this context, if that is worthwhile.
+    pub fn remember(
+        &self,
+        alloc: Global,
+        property: Property,
+        list: &Run,
+        x: &Context,
+        value: &Typed,
+    ) -> Result<(), AllocError>
+        requires { IsMet property x.now list.now value.now }
+    {
+        if takes_inherited(property) || !is_worthwhile(list.tokens().len()) {
+            return Ok(());
+        }
+        let mut memo = match self.memo.take() {
+            Some(memo) => memo,
+            None => Memo::new(alloc),
+        };
+        let kept = memo.keep(alloc, property, list, x, value);
+        self.memo.set(Some(memo));
+        kept
+    }
+}
+
+// What the list is as a value of the property, if that is in the memo.
+fn value_in(
+    alloc: Global,
+    memo: &Option<Memo>,
+    property: Property,
+    tokens: &[Token],
+    x: &Context,
+) -> Result<Option<Typed>, AllocError>
+    ensures { IfOk result (λ found. IfSome found (IsValueOf property x.now tokens.now)) }
+{
+    match memo {
+        Some(memo) if is_worthwhile(tokens.len()) => memo.value_of(alloc, property, tokens, x),
+        _ => Ok(None),
+    }
+}
+
+// Whether the computed value of the property may be the one that it inherits.
+fn takes_inherited(property: Property) -> bool
+    ensures { result ≡ takes_inherited property }
+{
+    matches!(property, Property::Color)
 }
 
 fn copied(entries: &IndexMap<Name, Entry>) -> Result<IndexMap<Name, Entry>, AllocError>
@@ -151,7 +220,12 @@ fn of_rules(alloc: Global, x: &Context, all: &[Rule]) -> Result<(Registry, Vec<N
         add_rule(alloc, x, number as u32, rule, &mut entries, &mut notes)?;
     }
     let table = Valuation::initial(alloc)?;
-    Ok((Registry { entries, table }, notes))
+    let registry = Registry {
+        entries,
+        table,
+        memo: Cell::new(None),
+    };
+    Ok((registry, notes))
 }
 
 // Keeps what the rule registers, or notes why it is ignored.

@@ -55,6 +55,9 @@ module _ (t : Trie) (i o : List Outcome) (t' : Trie) (i' o' : List Outcome) wher
   values_by-same same =
       map.same_map key_cmp_total key_cmp_antisymmetric _ _ (λ q. get-values_by t' i' o' q ∙ ap kept_of (same q) ∙ sym (get-values_by t i o q))
 
+  pub kept-same : ((q : Key) → outcome_by t' i' o' q ≡ outcome_by t i o q) → AreKeptBy t i o → AreKeptBy t' i' o'
+  kept-same same kept q = subst (MayKeep q) (sym (same q)) (kept q)
+
   -- where one outcome is set
   module _ (key : Key) (outcome : Outcome) (sets : (q : Key) → outcome_by t' i' o' q ≡ cond (same_key q key) outcome (outcome_by t i o q)) where
     pub values_by-with : values_by t' i' o' ≡ with_outcome (values_by t i o) key outcome
@@ -107,6 +110,13 @@ pub sets-ordinary : (t : Trie) (i o i' o' : List Outcome) (p : Property) (outcom
 sets-ordinary t i o i' o' p outcome sets (Custom name) = refl
 sets-ordinary t i o i' o' p outcome sets (Table q) =
     sets (number_of q) ∙ ap (λ b. cond b outcome (in_row (row_of i o (number_of q)) (place_of (number_of q)))) (sym (same_table q p))
+
+-- nothing is set in the rows
+pub same-ordinary : (t : Trie) (i o i' o' : List Outcome)
+    → ((q : ℕ) → in_row (row_of i' o' q) (place_of q) ≡ in_row (row_of i o q) (place_of q))
+    → (q : Key) → outcome_by t i' o' q ≡ outcome_by t i o q
+same-ordinary t i o i' o' same (Custom name) = refl
+same-ordinary t i o i' o' same (Table q) = same (number_of q)
 
 -- in the row of those that inherit, and in the other
 pub rows-inherited : (i o i' : List Outcome) (n : ℕ) (outcome : Outcome) → nat_lt n 7 ≡ true

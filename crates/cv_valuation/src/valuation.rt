@@ -99,21 +99,22 @@ fn found_ordinary<'a>(inherited: &'a Row, own: &'a Row, property: Property) -> O
     }
 }
 
-// The two rows with this outcome for the property.
-fn with_ordinary(
+// Gives the property this outcome in its row, and leaves every other as it was.
+fn put_in(
     alloc: Global,
-    inherited: &Row,
-    own: &Row,
+    inherited: &mut Row,
+    own: &mut Row,
     property: Property,
     outcome: Outcome,
-) -> Result<(Row, Row), AllocError>
-    ensures { IfOk result (λ rows. (q : ℕ) → in_row (row_of rows.0 rows.1 q) (place_of q) ≡ (if q == number_of property then outcome else in_row (row_of inherited.now own.now q) (place_of q))) }
+) -> Result<(), AllocError>
+    ensures ok { OnOk result ((q : ℕ) → in_row (row_of inherited.new own.new q) (place_of q) ≡ (if q == number_of property then outcome else in_row (row_of inherited.old own.old q) (place_of q))) }
+    ensures err { OnErr result ((q : ℕ) → in_row (row_of inherited.new own.new q) (place_of q) ≡ in_row (row_of inherited.old own.old q) (place_of q)) }
 {
     let place = place_of(property);
     if is_inherited(property) {
-        Ok((inherited.with(alloc, place, outcome)?, own.share()?))
+        inherited.put(alloc, place, outcome)
     } else {
-        Ok((inherited.share()?, own.with(alloc, place, outcome)?))
+        own.put(alloc, place, outcome)
     }
 }
 
@@ -199,15 +200,13 @@ impl Valuation {
         ensures ok { OnOk result (self.new ≡ with_outcome self.old (Table property) outcome) }
         ensures err { OnErr result (self.new ≡ self.old) }
     {
-        let (inherited, own) = with_ordinary(
+        put_in(
             self.alloc,
-            &self.inherited,
-            &self.own,
+            &mut self.inherited,
+            &mut self.own,
             property,
             outcome,
         )?;
-        self.inherited = inherited;
-        self.own = own;
         Ok(())
     }
 
