@@ -56,7 +56,7 @@ fn judge_typed(
     ensures kept { IfOk result (MayCome registry.now key.now) }
 {
     let em = em_for(parent, values, key);
-    match read(alloc, registry, parent, at, key, trimmed.tokens(), em)? {
+    match read(alloc, registry, parent, at, key, trimmed, em)? {
         Matched::Fit(value) => Ok(Verdict::Used(Outcome::Value(value))),
         Matched::Out => Ok(Verdict::OutOfRange),
         Matched::No => Ok(Verdict::Refused(Cause::Mismatch)),

@@ -20,7 +20,7 @@ use cv_frac::Frac;
 use cv_numeric::Matched;
 use cv_property_laws::properties_may_be_kept;
 use cv_props::{Key, Outcome, Property, Registry, Valuation};
-use cv_spec_text::{Name, OutOfMemory, Token};
+use cv_spec_text::{Name, OutOfMemory, Run, Token};
 use cv_spec_valuation::Place;
 use cv_value::{Item, Typed, ValueErr, match_syntax};
 use cv_value_laws::values_may_be_kept;
@@ -114,25 +114,51 @@ fn inherited<'a>(parent: Option<&'a Valuation>, property: Property, initial: &'a
     }
 }
 
-// What the list is by the grammar of an ordinary property, with its computed value.
-fn read_table(
+// What the list is by the grammar of an ordinary property, with its computed value, which is remembered.
+fn compute_table(
     alloc: Global,
+    registry: &Registry,
     parent: Option<&Valuation>,
     property: Property,
-    tokens: &[Token],
+    list: &Run,
     x: &Context,
 ) -> Result<Matched<Typed>, OutOfMemory>
-    requires spelt { All IsSpelt tokens.now }
-    ensures read { IfOk result (λ m. m ≡ mapped (computed_of property (inherited_from (option_copied parent.entry) property)) (matching_property property x.now tokens.now)) }
+    ensures read { IfOk result (λ m. m ≡ mapped (computed_of property (inherited_from (option_copied parent.entry) property)) (matching_property property x.now list.now)) }
     ensures kept { IfOk result (λ m. (v : Typed) → m ≡ Fit v → MayBeKept v) }
 {
     properties_may_be_kept();
     let initial = property.initial(alloc)?;
-    match property.compute(alloc, tokens, x, inherited(parent, property, &initial)) {
-        Ok(value) => Ok(Matched::Fit(value)),
+    match property.compute(
+        alloc,
+        list.tokens(),
+        x,
+        inherited(parent, property, &initial),
+    ) {
+        Ok(value) => {
+            registry.remember(alloc, property, list, x, &value)?;
+            Ok(Matched::Fit(value))
+        }
         Err(ValueErr::Mismatch) => Ok(Matched::No),
         Err(ValueErr::Range) => Ok(Matched::Out),
         Err(ValueErr::Memory) => Err(OutOfMemory),
+    }
+}
+
+// What the list is by the grammar of an ordinary property, with its computed value.
+fn read_table(
+    alloc: Global,
+    registry: &Registry,
+    parent: Option<&Valuation>,
+    property: Property,
+    list: &Run,
+    x: &Context,
+) -> Result<Matched<Typed>, OutOfMemory>
+    ensures read { IfOk result (λ m. m ≡ mapped (computed_of property (inherited_from (option_copied parent.entry) property)) (matching_property property x.now list.now)) }
+    ensures kept { IfOk result (λ m. (v : Typed) → m ≡ Fit v → MayBeKept v) }
+{
+    match registry.remembered(alloc, property, list.tokens(), x)? {
+        Some(value) => Ok(Matched::Fit(value)),
+        None => compute_table(alloc, registry, parent, property, list, x),
     }
 }
 
@@ -143,17 +169,16 @@ pub fn read(
     parent: Option<&Valuation>,
     at: &Place,
     key: &Key,
-    tokens: &[Token],
+    list: &Run,
     em: Frac,
 ) -> Result<Matched<Typed>, OutOfMemory>
     requires firm { is_loose registry.now key.now ≡ false }
-    requires spelt { All IsSpelt tokens.now }
-    ensures read { IfOk result (λ m. m ≡ reads_at registry.now (option_copied parent.entry) at.now key.now em tokens.now) }
+    ensures read { IfOk result (λ m. m ≡ reads_at registry.now (option_copied parent.entry) at.now key.now em list.now) }
     ensures kept { IfOk result (λ m. (v : Typed) → m ≡ Fit v → MayBeKept v) }
 {
     let x = context_of(at, em);
     match key {
-        Key::Custom(name) => read_custom(alloc, registry, name, tokens, &x),
-        Key::Table(property) => read_table(alloc, parent, *property, tokens, &x),
+        Key::Custom(name) => read_custom(alloc, registry, name, list.tokens(), &x),
+        Key::Table(property) => read_table(alloc, registry, parent, *property, list, &x),
     }
 }
