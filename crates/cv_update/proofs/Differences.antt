@@ -21,6 +21,10 @@ no_change element key outcome = by _ (bytes_eq (outcome_text outcome) (outcome_t
     by x true is = refl
     by x false is = cc
 
+pub told_same : (element : ℕ) (key : Key) (old new : Outcome) (told : List Change) → old ≡ new → told ≡ told ++ change_of element key old new
+told_same element key old new told same =
+    sym (append-nil told) ∙ ap (λ l. told ++ l) (sym (ap (λ o. change_of element key o new) same ∙ no_change element key new))
+
 pub no_changes : (keys : List Key) (element : ℕ) (computed : Computed) → changes_on keys element computed computed ≡ []
 no_changes [] element computed = refl
 no_changes (key ∷ keys) element computed =

@@ -1,5 +1,5 @@
 -- Properties sorted by their names.
-use Rattle.std.proofs.Common.{◌≡◌, ◌≢◌, ℕ, zero, suc, ◌+◌, ◌-◌, ◌<◌, Bool, true, false, List, [], ◌∷◌, ◌++◌, map, length, get_or, take, Some, All, IsPermutation, IsSortedBy, slice_get, nat_cmp, is_lt, refl, sym, ◌∙◌, ap, subst, arith}
+use Rattle.std.proofs.Common.{◌≡◌, ◌≢◌, ℕ, zero, suc, ◌+◌, ◌-◌, ◌<◌, Bool, true, false, List, [], ◌∷◌, ◌++◌, map, length, get_or, take, Some, All, IsPermutation, IsSortedBy, slice_get, nat_cmp, is_lt, sym, ◌∙◌, ap, subst, arith}
 use Rattle.std.specs.Prelude.{None, encode_utf8_all}
 use Rattle.std.specs.Ordering.{ordering_reverse}
 use Rattle.std.specs.declared.cmp.Ordering.TheVariants.{Greater}

@@ -1,8 +1,7 @@
 -- What is computed of the next element of a walk.
-use Rattle.std.proofs.Common.{◌≡◌, ℕ, zero, suc, ◌+◌, ◌-◌, ◌<◌, ◌≤◌, ◌++◌, ◌∷◌, [], List, length, refl, length-append, sym, ap, ◌∙◌, subst, arith}
-use Rattle.std.specs.Prelude.{Option, Some, None, Result, Ok, Err, IfErr, IfOk, OnOk, slice_set, ⊤}
+use Rattle.std.proofs.Common.{◌≡◌, ℕ, zero, suc, ◌+◌, ◌-◌, ◌≤◌, ◌++◌, ◌∷◌, [], List, length, refl, length-append, sym, ap, ◌∙◌, subst, arith}
+use Rattle.std.specs.Prelude.{Option, Some, Result, Ok, Err, IfErr, IfOk, OnOk, ⊤}
 use Rattle.std.specs.List.{slice_get}
-use Rattle.std.proofs.lemmas.Option.{slice_get-map, slice_get_within, slice_get-get_or, get_or_from_slice_get}
 use Rattle.cv_element.specs.declared.refusal.ElemErr.{ElemErr}
 use Rattle.cv_element.specs.declared.refusal.ElemErr.TheVariants.{Range}
 use Rattle.cv_valuation.specs.declared.computed.Computed.{Computed}
@@ -11,15 +10,14 @@ use Rattle.cv_valuation.specs.Valuations.{Values}
 use Rattle.cv_props.specs.Registered.{Registered}
 use Rattle.cv_props.specs.Winners.{Declarations}
 use Rattle.cv_spec_valuation.specs.declared.place.Place.{Place}
-use Rattle.cv_spec_valuation.specs.Computed.{IsComputed, IsOutOfRange, ParentStandsUnder, StandUnder}
+use Rattle.cv_spec_valuation.specs.Computed.{IsComputed, IsOutOfRange, StandUnder}
 use Rattle.cv_tree.specs.Tree.{AllStand, parent_in, values_in}
 use Rattle.cv_tree.specs.declared.tree.Stop.{Stop}
 use Rattle.cv_tree.specs.declared.tree.Stop.TheVariants as stop
-use Rattle.cv_update.specs.declared.fresh.Fresh.{Fresh}
 use Rattle.cv_update.specs.declared.renewing.Renewing.{Renewing}
 use Rattle.cv_update.specs.Fresh.{nothing}
-use Rattle.cv_update.specs.Renewed.{declared_after, put_from, with_fresh}
-use Rattle.cv_update.specs.Walking.{IsKept, IsNextOf, IsNextOut, Stepped, now_of, place_for, values_now}
+use Rattle.cv_update.specs.Renewed.{declared_after, put_from}
+use Rattle.cv_update.specs.Walking.{IsKept, IsNextOf, IsNextOut, Stepped, place_for, values_now}
 use Rattle.cv_update.proofs.Putting.{put_more_new}
 
 pub next_of : (s : Renewing) (index : ℕ) (parent : Option ℕ) (decls : Declarations) (place : Place) (values : Option Values) (result : Result Computed ElemErr)

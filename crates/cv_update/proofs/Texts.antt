@@ -1,5 +1,5 @@
 -- What the report writes of an outcome is text.
-use Rattle.std.proofs.Common.{◌≡◌, ℕ, zero, suc, ◌<◌, List, [], ◌∷◌, ◌++◌, refl, lit<}
+use Rattle.std.proofs.Common.{ℕ, zero, suc, List, [], ◌∷◌, refl, lit<}
 use Rattle.std.specs.Prelude.{All, IsAscii, IsUtf8, codes}
 use Rattle.std.proofs.lemmas.Str.{IsUtf8-append, IsUtf8-from_ascii, IsUtf8-nil}
 use Rattle.cv_spec_text.specs.Characters.{space}
@@ -8,8 +8,6 @@ use Rattle.cv_spec_text.specs.Splits.{IsSpelt}
 use Rattle.cv_spec_text.specs.declared.token.Token.{Token}
 use Rattle.cv_tokser.proofs.Kept.{kept-scalars, written-kept}
 use Rattle.cv_tokser.proofs.Spelt.{are_well_formed}
-use Rattle.cv_value.specs.declared.typed.Typed.{Typed}
-use Rattle.cv_value.specs.Kept.{MayBeKept}
 use Rattle.cv_value.specs.Text.{typed_text}
 use Rattle.cv_valuation.specs.declared.key.Key.{Key}
 use Rattle.cv_valuation.specs.declared.outcome.Outcome.{Outcome}

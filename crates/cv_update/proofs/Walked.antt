@@ -1,7 +1,7 @@
 -- A walk over an element and its descendants: each is ready, and at the end all of the tree is computed, or a property of the first
 -- element on which one is out of range is told.
 use Rattle.std.proofs.Common.{◌≡◌, ◌≢◌, ◌⊎◌, inl, inr, ℕ, zero, suc, ◌+◌, ◌<◌, ◌≤◌, Bool, true, false, List, [], ◌∷◌, ◌++◌, All, length, take, refl, sym, ap, ◌∙◌, subst, arith, append-nil, length-append, append_assoc}
-use Rattle.std.specs.Prelude.{Option, Some, None, Result, Ok, Err, IfSome, map, option_map, slice_set, ⊤}
+use Rattle.std.specs.Prelude.{Option, Some, None, Ok, Err, IfSome, map, option_map, slice_set}
 use Rattle.std.specs.List.{slice_get}
 use Rattle.std.proofs.lemmas.List.{length-map, take_all}
 use Rattle.std.proofs.lemmas.List.Elements.{All-set, All-take}
@@ -26,7 +26,7 @@ use Rattle.cv_walk.specs.Walks.{AreReadyOver, ReachesOver}
 use Rattle.cv_update.specs.declared.renewal.Renewal.{Renewal}
 use Rattle.cv_update.specs.declared.renewing.Renewing.{Renewing}
 use Rattle.cv_update.specs.Renewed.{IsRenewable, IsWithin, declared_after, put_from, tree_after, tree_before, with_fresh}
-use Rattle.cv_update.specs.Walking.{IsNextOut, IsOneMore, IsReady, Stepped, place_for, values_now}
+use Rattle.cv_update.specs.Walking.{IsNextOut, IsOneMore, IsReady, Stepped}
 use Rattle.cv_update.proofs.Alike.{element_alike, first_next}
 use Rattle.cv_update.proofs.Putting.{length_put, put_none}
 use Rattle.cv_update.proofs.Subtrees.{marked_from, unmarked_other, unmarked_parent, unmarked_root}

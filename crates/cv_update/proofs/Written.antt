@@ -1,12 +1,11 @@
 -- A name as the report writes it is text.
 use Rattle.std.proofs.Common.{◌≡◌, ℕ, ◌/◌, ◌%◌, ◌<◌, List, [], ◌∷◌, ◌++◌, refl, ap, ◌∙◌, arith}
 use Rattle.std.specs.Prelude.{Bool, true, false, ◌&&◌, ◌==◌, nat_lt, if◌then◌else◌, IfOk, IsUtf8, Result, Ok, Err, chars, encode_utf8_all}
-use Rattle.std.specs.List.{flat_map}
 use Rattle.std.specs.Char.{is_ascii_digit, digit_char}
 use Rattle.std.proofs.Math.Utf8.{scalar, scalars}
 use Rattle.std.proofs.lemmas.Bool.Decides.{nat_tests}
 use Rattle.std.proofs.lemmas.Str.{encodes-chars}
-use Rattle.cv_spec_text.specs.Characters.{hyphen, reverse_solidus, is_ident_code_point, space}
+use Rattle.cv_spec_text.specs.Characters.{hyphen, is_ident_code_point}
 use Rattle.cv_spec_text.specs.Printing.{is_control, hex_escape, name_code_point, name_rest, with_no_digit_first, identifier}
 
 abbrev AreScalars : List ℕ → Type 0

@@ -1,6 +1,6 @@
 -- What changes in a tree: the properties whose outcomes are written otherwise than before, by element and then in the order of the keys
 -- (this project's own).
-use Rattle.std.specs.Prelude.{ℕ, ◌≡◌, ◌+◌, List, [], ◌∷◌, ◌++◌, bytes_eq, chars, drop, if◌then◌else◌}
+use Rattle.std.specs.Prelude.{ℕ, ◌+◌, List, [], ◌∷◌, ◌++◌, bytes_eq, chars, drop, if◌then◌else◌}
 use Rattle.std.specs.List.{flat_map}
 use Rattle.cv_valuation.specs.declared.computed.Computed.{Computed}
 use Rattle.cv_valuation.specs.declared.key.Key.{Key}

@@ -11,7 +11,6 @@ use Rattle.cv_tree.specs.Contents.{AreFew}
 use Rattle.cv_tree.specs.Tree.{AllStand, parent_in, place_in, values_in}
 use Rattle.cv_tree.specs.declared.tree.Stop.{Stop}
 use Rattle.cv_tree.specs.declared.tree.Stop.TheVariants as stop
-use Rattle.cv_update.specs.declared.renewal.Renewal.{Renewal}
 use Rattle.cv_update.specs.declared.renewing.Renewing.{Renewing}
 use Rattle.cv_update.specs.Renewed.{declared_after, with_fresh}
 

@@ -8,6 +8,7 @@ ghost use Rattle.cv_update.specs.Renewed.{IsWithin, with_fresh};
 
 use crate::fresh::{Fresh, at_place, computed_at};
 use crate::names::{Named, name_of};
+use crate::same::are_same;
 use cv_props::{Computed, Key, Outcome, outcome_text};
 use cv_value_laws::values_may_be_kept;
 use cv_watch::Change;
@@ -25,7 +26,9 @@ fn text_of(alloc: Global, key: &Key, outcome: &Outcome) -> Result<Vec<u8>, Alloc
     Ok(text)
 }
 
-// Adds the change of a property on an element, if its outcome is written otherwise than before.
+// Adds the change of a property on an element, if its outcome is written otherwise than before. Where the two are seen to be the same
+// nothing is printed.
+#[tactic(auto, using(crate::proofs::Differences::told_same))]
 fn push_change(
     alloc: Global,
     element: u32,
@@ -39,6 +42,9 @@ fn push_change(
     requires new { MayKeep named.now.key new.now }
     ensures { OnOk result (all.new.items ≡ all.old.items ++ change_of element named.now.key old.now new.now) }
 {
+    if are_same(old, new) {
+        return Ok(());
+    }
     let before = text_of(alloc, &named.key, old)?;
     let after = text_of(alloc, &named.key, new)?;
     if before == after {

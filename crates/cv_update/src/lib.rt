@@ -9,6 +9,7 @@ mod names;
 mod renewal;
 mod renewed;
 mod renewing;
+mod same;
 
 pub use fresh::{Fresh, put_fresh};
 pub use names::{Named, names_of};

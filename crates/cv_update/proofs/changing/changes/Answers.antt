@@ -1,4 +1,4 @@
-use Rattle.std.proofs.Common.{arith, ap, sym, ◌∙◌, ◌++◌, ◌+◌}
+use Rattle.std.proofs.Common.{arith, ap, ◌∙◌, ◌++◌, ◌+◌}
 use Rattle.std.specs.Prelude.{map}
 use Rattle.cv_update.specs.Changes.{left_from}
 use Rattle.cv_update.specs.Names.{key_of}

@@ -1,4 +1,4 @@
-use Rattle.std.proofs.Common.{arith, sym, ◌∙◌}
+use Rattle.std.proofs.Common.{arith, ◌∙◌}
 use Rattle.cv_update.proofs.Putting.{filled_next}
 use Rattle.cv_update.proofs.fresh.fill.Goals as goal
 
